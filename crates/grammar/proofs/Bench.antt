@@ -1,7 +1,7 @@
 -- Bench cases A to O of document 01, as one list, and one claim: the written meaning gives each its answer. Assumes nothing.
 use mathlib.Core.Path.{_≡_, refl}
 use mathlib.Core.List.{List, [], _∷_, _++_, map}
-use mathlib.Core.Bool.{true, false}
+use mathlib.Core.Bool.{false}
 use Prim.Native.Nat.{ℕ, _-_}
 use lib.IntN.{pos, negsuc}
 use lib.ListN.{length, replicate}

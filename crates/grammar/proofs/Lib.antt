@@ -1,1 +1,9 @@
 pub mod Bench
+pub mod Fuel
+pub mod Facts
+pub mod Records
+pub mod Nodes
+pub mod Decode
+pub mod Typed
+pub mod Sound
+pub mod Demand

@@ -1,7 +1,7 @@
 -- The answer for every input (document 01, 'Numbers that come back'): the checks in their order, the run, the record, the work area afterwards.
 -- Assumes nothing.
-use mathlib.Core.List.{List, [], _∷_, _++_}
-use Prim.Native.Nat.{ℕ, suc, _+_}
+use mathlib.Core.List.{List, [], _++_}
+use Prim.Native.Nat.{ℕ, suc}
 use lib.Dec.{leb}
 use lib.ListN.{getD, length, drop, replicate}
 use Rattle.grammar.specs.declared.Value.{Value}
@@ -14,10 +14,10 @@ use Rattle.grammar.specs.declared.Answer.{Answer}
 use Rattle.grammar.specs.declared.Mode.{Mode}
 use Rattle.grammar.specs.declared.Mode.the-variants.{Bench, Display}
 use Rattle.grammar.specs.Numbers.{DONE, SIZE, FIELD, USE, START, TYPE, LONG, WORK, NOMATCH, BUDGET, DEEP, STUCK, FAULT}
-use Rattle.grammar.specs.Tree.{Grammar, ruleOf, grammarOf}
+use Rattle.grammar.specs.Tree.{ruleOf, grammarOf}
 use Rattle.grammar.specs.Form.{andThen, unlessOk, refusedAt, formCheck}
 use Rattle.grammar.specs.Types.{untyped}
-use Rattle.grammar.specs.Run.{Setting, Tally, Applied, matched, failed, ended, outOfFuel, onward, withValue, evalAll, fresh, apply}
+use Rattle.grammar.specs.Run.{Setting, Applied, matched, failed, ended, outOfFuel, onward, withValue, evalAll, fresh, apply}
 
 -- W, in 32-bit words; docs/WORK.md has the layout
 abbrev pub workWords : ℕ

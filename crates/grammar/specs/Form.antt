@@ -8,7 +8,7 @@ use lib.ListN.{getD, length}
 use Rattle.laws.specs.Counting.{smallestFailing, howMany}
 use Rattle.grammar.specs.declared.Verdict.{Verdict}
 use Rattle.grammar.specs.declared.Verdict.the-variants.{Passed, Size, Field, Use, Start, Untyped, Long, Work}
-use Rattle.grammar.specs.Words.{word, ruleCount, nodeCount, literalCount, ruleStart, nodeStart, ruleWord, nodeWord, inheritedCount, returnedCount, kindAt}
+use Rattle.grammar.specs.Words.{word, ruleCount, nodeCount, literalCount, nodeStart, ruleWord, nodeWord, inheritedCount, returnedCount, kindAt}
 
 -- ════ 'What each kind expects in its nine fields is one constant table over the kinds' ════
 

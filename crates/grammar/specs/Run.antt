@@ -10,7 +10,7 @@ use Rattle.grammar.specs.declared.Value.{Value}
 use Rattle.grammar.specs.declared.Value.the-variants as Val
 use Rattle.grammar.specs.Tree.{Expr, bool, integer, text, slot, binary, negation}
 use Rattle.grammar.specs.Tree.{Parsing, empty, terminal, sequence, choice, repeat, unless, call, bind, update, constraint, node}
-use Rattle.grammar.specs.Tree.{Rule, Grammar, ruleOf}
+use Rattle.grammar.specs.Tree.{Grammar, ruleOf}
 use Rattle.grammar.specs.Values.{Evaluated, value, ends, after, present, lookLeft, operate, negated}
 
 -- 'A rule has 16 attribute slots'; an unset one is Absent

@@ -1,15 +1,15 @@
 -- The trees that a table stands for. A node's tree carries the node's number, which answers name as their place.
 -- Assumes nothing.
 use mathlib.Core.List.{List, [], _∷_, map}
-use mathlib.Core.Bool.{Bool, true, false}
-use Prim.Native.Nat.{ℕ, zero, suc, _+_}
+use mathlib.Core.Bool.{Bool, false}
+use Prim.Native.Nat.{ℕ, zero, suc}
 use lib.IntN.{ℤ}
 use lib.ListN.{getD, take}
 use Rattle.grammar.specs.declared.Operator.{Operator}
 use Rattle.grammar.specs.declared.Node.{Node}
 use Rattle.grammar.specs.declared.Node.the-variants as N
 use Rattle.laws.specs.Counting.{tabulate}
-use Rattle.grammar.specs.Words.{word, ruleCount, ruleStart, ruleWord, inheritedCount, returnedCount, nodeAt}
+use Rattle.grammar.specs.Words.{ruleCount, ruleWord, inheritedCount, returnedCount, nodeAt}
 
 -- Expression: each begins with its node's number
 pub data Expr : Type 0 where
@@ -105,7 +105,7 @@ parsingOf n m expr part k (N.Slot s) = empty k
 parsingOf n m expr part k (N.Binary op a b) = empty k
 parsingOf n m expr part k (N.Negation a) = empty k
 
--- Node k's tree. Parts have smaller numbers than their node, so fuel k + 1 is enough; `Decode.antt` shows that more makes no difference.
+-- Node k's tree. Parts have smaller numbers than their node, so fuel k + 1 is enough; proofs/Decode.antt shows that more makes no difference.
 unfoldable pub exprWith : ℕ → List ℕ → ℕ → Expr
 exprWith zero words k = bool k false
 exprWith (suc fuel) words k = exprOf (exprWith fuel words) k (nodeAt words k)

@@ -2,11 +2,11 @@
 -- Assumes nothing.
 use mathlib.Core.List.{List, [], _∷_}
 use mathlib.Core.Bool.{Bool, true, false, cond, not, _&&_, Bool·beq}
-use Prim.Native.Nat.{ℕ, zero, suc, _+_, _≤_}
+use Prim.Native.Nat.{ℕ, zero, suc, _+_}
 use lib.Dec.{ltb, leb, eqb}
 use lib.IntN.{ℤ, pos, negsuc, _+ℤ_, _-ℤ_, _*ℤ_}
 use lib.Signed.{mag, ltZ, quotZ}
-use lib.ListN.{getD, length, take, drop}
+use lib.ListN.{length, take, drop}
 use Rattle.grammar.specs.declared.Arithmetic.{Arithmetic}
 use Rattle.grammar.specs.declared.Arithmetic.the-variants.{Add, Subtract, Multiply, Divide}
 use Rattle.grammar.specs.declared.Operator.{Operator}
