@@ -1,0 +1,5 @@
+pub mod Rows
+pub mod Force
+pub mod Places
+pub mod Tallies
+pub mod Order

@@ -1,0 +1,71 @@
+-- Which fields a kind's node is made of, and which numbers are no kind. Assumes nothing.
+use mathlib.Core.List.{List}
+use mathlib.Core.Logic.{⊎-elim, _≢_}
+use mathlib.Core.Path.{_≡_, refl, sym}
+use Prim.Native.Nat.{ℕ, zero, suc, _-_, _≤_, _<_}
+use native.Mathlib.Nat.{eq-zero-or-pos}
+use native.Mathlib.Omega.{arith}
+use lib.ListN.{getD, List·getD-eq-default}
+use Rattle.laws.specs.Apart.{past}
+use Rattle.grammar.specs.declared.Node.the-variants as N
+use Rattle.grammar.specs.Words.{kindAt, nodeAt, nodeFor, nodeWord, nodes}
+use Rattle.table.specs.Fields.{callAt, nodeOfTwo}
+
+-- only a call has more than two fields
+pub two-fields : (kind a b c d e f g h i : ℕ) → kind ≢ 7 → nodeFor kind a b c d e f g h i ≡ nodeOfTwo kind a b
+unfolding nodeFor nodes nodeOfTwo
+two-fields zero a b c d e f g h i other = refl
+two-fields (suc zero) a b c d e f g h i other = refl
+two-fields (suc (suc zero)) a b c d e f g h i other = refl
+two-fields (suc (suc (suc zero))) a b c d e f g h i other = refl
+two-fields (suc (suc (suc (suc zero)))) a b c d e f g h i other = refl
+two-fields (suc (suc (suc (suc (suc zero))))) a b c d e f g h i other = refl
+two-fields (suc (suc (suc (suc (suc (suc zero)))))) a b c d e f g h i other = refl
+two-fields (suc (suc (suc (suc (suc (suc (suc zero))))))) a b c d e f g h i other = absurd (other refl)
+two-fields (suc (suc (suc (suc (suc (suc (suc (suc kind)))))))) a b c d e f g h i other = refl
+
+module _ (kind a b : ℕ) where
+  -- 11 to 15
+  between : (n : ℕ) → n < 5 → getD (nodes a b 0 0 0 0 0 0 0) (suc (suc (suc (suc (suc (suc (suc (suc (suc (suc (suc n))))))))))) N.Unknown ≡ N.Unknown
+  unfolding nodes
+  between zero h = refl
+  between (suc zero) h = refl
+  between (suc (suc zero)) h = refl
+  between (suc (suc (suc zero))) h = refl
+  between (suc (suc (suc (suc zero)))) h = refl
+  between (suc (suc (suc (suc (suc n))))) h = absurd (omega arith)
+
+  below-16 : 11 ≤ kind → kind < 16 → N.Unknown ≡ nodeOfTwo kind a b
+  unfolding nodeFor nodeOfTwo
+  below-16 low high =
+      let e : kind ≡ suc (suc (suc (suc (suc (suc (suc (suc (suc (suc (suc (kind - 11))))))))))) = omega arith in
+      rw e (sym (between (kind - 11) (omega arith)))
+
+  -- below 16 these are all
+  pub unknown-parsing : kind < 16 → kind ≢ 1 → kind ≢ 2 → kind ≢ 3 → kind ≢ 4 → kind ≢ 5 → kind ≢ 6 → kind ≢ 7 → kind ≢ 8 → kind ≢ 9 → kind ≢ 10
+      → N.Unknown ≡ nodeOfTwo kind a b
+  unfolding nodeFor nodes nodeOfTwo
+  unknown-parsing h n1 n2 n3 n4 n5 n6 n7 n8 n9 n10 =
+      ⊎-elim
+      (λ (e : kind ≡ 0). rw e)
+      (λ (h0 : 1 ≤ kind).
+      below-16 (past 10 (past 9 (past 8 (past 7 (past 6 (past 5 (past 4 (past 3 (past 2 (past 1 h0 n1) n2) n3) n4) n5) n6) n7) n8) n9) n10) h)
+      (eq-zero-or-pos kind)
+
+  -- from 16 on these are all
+  pub unknown-expression : 16 ≤ kind → kind ≢ 16 → kind ≢ 17 → kind ≢ 18 → kind ≢ 19 → kind ≢ 20 → kind ≢ 21 → kind ≢ 22 → kind ≢ 23 → kind ≢ 24 → kind ≢ 25
+      → kind ≢ 26 → kind ≢ 27 → kind ≢ 28 → N.Unknown ≡ nodeOfTwo kind a b
+  unfolding nodeFor nodes nodeOfTwo
+  unknown-expression h n16 n17 n18 n19 n20 n21 n22 n23 n24 n25 n26 n27 n28 =
+      sym
+      (List·getD-eq-default (nodes a b 0 0 0 0 0 0 0) N.Unknown
+      (past 28 (past 27 (past 26 (past 25 (past 24 (past 23 (past 22 (past 21 (past 20 (past 19 (past 18 (past 17 (past 16 h n16) n17) n18) n19) n20) n21) n22) n23) n24) n25) n26) n27) n28))
+
+module _ (words : List ℕ) (k : ℕ) where
+  pub node-call : kindAt words k ≡ 7 → callAt words k ≡ nodeAt words k
+  unfolding nodeAt nodeFor nodes
+  node-call e = rw e
+
+  pub node-other : kindAt words k ≢ 7 → nodeOfTwo (kindAt words k) (nodeWord words k 1) (nodeWord words k 2) ≡ nodeAt words k
+  unfolding nodeAt
+  node-other other = sym (two-fields _ _ _ _ _ _ _ _ _ _ other)

@@ -1,0 +1,5 @@
+pub mod Integers
+pub mod Complement
+pub mod Stored
+pub mod SlotList
+pub mod HandedOut
