@@ -19,7 +19,10 @@ use Rattle.grammar.specs.Types as T
 use Rattle.grammar.specs.Values as L
 use Rattle.grammar.specs.Run as R
 use Rattle.grammar.specs.Answer as A
-use Rattle.grammar.specs.Answer.{answered, answer, workWords}
+use Rattle.grammar.specs.declared.Verdict.{Verdict}
+use Rattle.grammar.specs.declared.Verdict.the-variants.{Passed, Untyped}
+use Rattle.grammar.specs.Values.{textBytes}
+use Rattle.grammar.specs.Answer.{answered, answer, typeCheck, workWords}
 
 -- a record of so many words, from those at its start: the others are 0
 abbrev pub record′ : ℕ → List ℕ → List ℕ
@@ -156,16 +159,30 @@ tableO = table (body 0) (call 0 ∷ [])
 
 -- ════ The cases ════
 
+-- what is asked of a case: the answer, the bytes of its first value, and the type check's verdict
+pub record Outcome : Type 0 where
+  pub answer : Answer
+  pub bytes : List ℕ
+  pub types : Verdict
+
 pub record Case : Type 0 where
   pub mode : Mode
   pub words : List ℕ
   pub message : List ℕ
   pub budget : ℕ
-  pub expected : Answer
+  pub expected : Outcome
 
 -- what the written meaning gives
-pub given : Case → Answer
-given c = answer (c .mode) (c .words) [] (c .message) (c .budget) workWords
+pub given : Case → Outcome
+given c =
+    let a = answer (c .mode) (c .words) [] (c .message) (c .budget) workWords in
+    record { answer = a; bytes = textBytes (c .message) [] (a .value0); types = typeCheck (c .words) [] }
+
+abbrev pub typed : Answer → Outcome
+typed a = record { answer = a; bytes = []; types = Passed }
+
+abbrev pub untyped : Answer → Outcome
+untyped a = record { answer = a; bytes = []; types = Untyped 0 }
 
 -- a budget where the case names none: the largest
 abbrev pub plenty : ℕ
@@ -179,26 +196,26 @@ x= v = v ∷ []
 
 pub cases : List Case
 cases =
-    record { mode = Display; words = tableA; message = 71 ∷ 49 ∷ []; budget = 2; expected = answered DONE 0 1 2 (x= (Val.Text (record { literal = false; start = 0; length = 1 }))) }  -- A
-    ∷ record { mode = Display; words = tableA; message = []; budget = 2; expected = answered NOMATCH 0 0 2 no-values }  -- B
-    ∷ record { mode = Display; words = tableA; message = 71 ∷ 49 ∷ []; budget = 1; expected = answered BUDGET 0 0 1 no-values }  -- C
-    ∷ record { mode = Display; words = tableA; message = 71 ∷ 49 ∷ []; budget = 0; expected = answered BUDGET 1 0 0 no-values }  -- D
-    ∷ record { mode = Display; words = tableE; message = []; budget = plenty; expected = answered TYPE 0 0 0 no-values }  -- E
-    ∷ record { mode = Bench; words = tableE; message = []; budget = plenty; expected = answered DONE 0 0 3 no-values }  -- E, bench
-    ∷ record { mode = Display; words = tableF; message = 50 ∷ []; budget = plenty; expected = answered DONE 0 1 6 (x= (Val.Integer (pos 2))) }  -- F
-    ∷ record { mode = Display; words = tableG; message = 50 ∷ []; budget = plenty; expected = answered TYPE 0 0 0 no-values }  -- G
-    ∷ record { mode = Bench; words = tableG; message = 50 ∷ []; budget = plenty; expected = answered STUCK 6 0 4 no-values }  -- G, bench
-    ∷ record { mode = Display; words = tableH; message = []; budget = plenty; expected = answered DONE 0 0 5 (x= (Val.Integer (pos 1))) }  -- H
-    ∷ record { mode = Display; words = tableI; message = []; budget = 10; expected = answered BUDGET 0 0 10 no-values }  -- I
-    ∷ record { mode = Display; words = tableJ; message = []; budget = plenty; expected = answered DONE 0 0 14 (x= (Val.Integer (pos 3))) }  -- J
-    ∷ record { mode = Display; words = tableK; message = []; budget = plenty; expected = answered FAULT 2 0 1 no-values }  -- K
-    ∷ record { mode = Display; words = tableL; message = []; budget = plenty; expected = answered DONE 0 0 1 (x= (Val.Integer (negsuc 2))) }  -- L
-    ∷ record { mode = Display; words = tableM; message = []; budget = plenty; expected = answered NOMATCH 0 0 1 no-values }  -- M
-    ∷ record { mode = Display; words = tableN; message = 97 ∷ 99 ∷ []; budget = plenty; expected = answered DONE 0 1 5 no-values }  -- N
-    ∷ record { mode = Display; words = tableO; message = []; budget = 257; expected = answered DEEP 0 0 256 no-values }  -- O
-    ∷ record { mode = Display; words = tableO; message = []; budget = 256; expected = answered BUDGET 0 0 256 no-values }  -- O, a smaller budget
+    record { mode = Display; words = tableA; message = 71 ∷ 49 ∷ []; budget = 2; expected = record { answer = answered DONE 0 1 2 (x= (Val.Text (record { literal = false; start = 0; length = 1 }))); bytes = 71 ∷ []; types = Passed } }  -- A
+    ∷ record { mode = Display; words = tableA; message = []; budget = 2; expected = typed (answered NOMATCH 0 0 2 no-values) }  -- B
+    ∷ record { mode = Display; words = tableA; message = 71 ∷ 49 ∷ []; budget = 1; expected = typed (answered BUDGET 0 0 1 no-values) }  -- C
+    ∷ record { mode = Display; words = tableA; message = 71 ∷ 49 ∷ []; budget = 0; expected = typed (answered BUDGET 1 0 0 no-values) }  -- D
+    ∷ record { mode = Display; words = tableE; message = []; budget = plenty; expected = untyped (answered TYPE 0 0 0 no-values) }  -- E
+    ∷ record { mode = Bench; words = tableE; message = []; budget = plenty; expected = untyped (answered DONE 0 0 3 no-values) }  -- E, bench
+    ∷ record { mode = Display; words = tableF; message = 50 ∷ []; budget = plenty; expected = typed (answered DONE 0 1 6 (x= (Val.Integer (pos 2)))) }  -- F
+    ∷ record { mode = Display; words = tableG; message = 50 ∷ []; budget = plenty; expected = untyped (answered TYPE 0 0 0 no-values) }  -- G
+    ∷ record { mode = Bench; words = tableG; message = 50 ∷ []; budget = plenty; expected = untyped (answered STUCK 6 0 4 no-values) }  -- G, bench
+    ∷ record { mode = Display; words = tableH; message = []; budget = plenty; expected = typed (answered DONE 0 0 5 (x= (Val.Integer (pos 1)))) }  -- H
+    ∷ record { mode = Display; words = tableI; message = []; budget = 10; expected = typed (answered BUDGET 0 0 10 no-values) }  -- I
+    ∷ record { mode = Display; words = tableJ; message = []; budget = plenty; expected = typed (answered DONE 0 0 14 (x= (Val.Integer (pos 3)))) }  -- J
+    ∷ record { mode = Display; words = tableK; message = []; budget = plenty; expected = typed (answered FAULT 2 0 1 no-values) }  -- K
+    ∷ record { mode = Display; words = tableL; message = []; budget = plenty; expected = typed (answered DONE 0 0 1 (x= (Val.Integer (negsuc 2)))) }  -- L
+    ∷ record { mode = Display; words = tableM; message = []; budget = plenty; expected = typed (answered NOMATCH 0 0 1 no-values) }  -- M
+    ∷ record { mode = Display; words = tableN; message = 97 ∷ 99 ∷ []; budget = plenty; expected = typed (answered DONE 0 1 5 no-values) }  -- N
+    ∷ record { mode = Display; words = tableO; message = []; budget = 257; expected = typed (answered DEEP 0 0 256 no-values) }  -- O
+    ∷ record { mode = Display; words = tableO; message = []; budget = 256; expected = typed (answered BUDGET 0 0 256 no-values) }  -- O, a smaller budget
     ∷ []
 
 pub bench : map given cases ≡ map (λ (c : Case). c .expected) cases
-unfolding given cases tableA tableE tableF tableG tableH tableI tableJ tableK tableL tableM tableN tableO tabulate smallestFailing howMany signed nodes nodeFor nodeAt node exprOf parsingOf exprWith exprAt parsingWith parsingAt ruleAt grammarOf F.fieldSorts F.fieldSort F.ruleSorts F.fits F.ruleWordOk F.nodeWordOk F.wordOk F.usesNode F.wordUses F.uses F.every F.sizeOk F.formCheck T.same T.operatorType T.exprType T.has T.haveAll T.assign T.assignAll T.typeOf T.typedAfter T.typedRule T.untyped L.fitting L.quotient L.calculated L.spanBytes L.sameBytes L.sameTexts L.equal L.lookLeft L.operate L.negated R.eval R.evalAll R.next R.withValue R.judged R.fresh R.receive R.byteStands R.rounds R.due R.returning R.visit R.admit R.apply A.number A.place A.endingNumber A.typeRules A.typeCheck A.check A.run A.answerOf A.refusal A.conclude answer
+unfolding given cases tableA tableE tableF tableG tableH tableI tableJ tableK tableL tableM tableN tableO tabulate smallestFailing howMany signed nodes nodeFor nodeAt node exprOf parsingOf exprWith exprAt parsingWith parsingAt ruleAt grammarOf F.fieldSorts F.fieldSort F.ruleSorts F.fits F.ruleWordOk F.nodeWordOk F.wordOk F.usesNode F.wordUses F.uses F.every F.sizeOk F.formCheck T.same T.operatorType T.exprType T.has T.haveAll T.assign T.assignAll T.typeOf T.typedAfter T.typedRule T.untyped L.fitting L.quotient L.calculated L.spanBytes L.textBytes L.sameBytes L.sameTexts L.equal L.lookLeft L.operate L.negated R.eval R.evalAll R.next R.withValue R.judged R.fresh R.receive R.byteStands R.rounds R.due R.returning R.visit R.admit R.apply A.number A.place A.endingNumber A.typeRules typeCheck A.check A.run A.answerOf A.refusal A.conclude answer
 bench = refl

@@ -100,12 +100,12 @@ answered number place consumed visits values = record {
   value3 = getD values 3 Val.Absent;
 }
 
--- 'Consumed and values are zero or absent unless DONE'. (A run never comes to outOfFuel: proofs/Fuel.antt.)
+-- 'Consumed and values are zero or absent unless DONE'. A run never comes to outOfFuel (proofs/Fuel.antt): it has a number that document 01 has not
 unfoldable pub answerOf : Applied → Answer
 answerOf (matched at values t) = answered DONE 0 at (t .visits) values
 answerOf (failed slots t) = answered NOMATCH 0 0 (t .visits) []
 answerOf (ended why k t) = answered (endingNumber why) k 0 (t .visits) []
-answerOf outOfFuel = answered BUDGET 0 0 0 []
+answerOf outOfFuel = answered 255 0 0 0 []
 
 -- 'visits are 0 unless the answer is 0 or 8 to 12'
 unfoldable pub refusal : Verdict → Answer
@@ -124,7 +124,7 @@ conclude Work ran = refusal Work
 abbrev pub settingOf : (words literals message : List ℕ) → Setting
 settingOf words literals message = record { grammar = grammarOf words; message = message; literals = literals }
 
--- The answer for every table, text, message, budget and length of the work area
+-- The answer for every table, literals, message, budget and length of the work area
 unfoldable pub answer : Mode → (words literals message : List ℕ) → (budget workLength : ℕ) → Answer
 answer mode words literals message budget workLength =
     conclude (check mode words literals (length message) workLength) (run (settingOf words literals message) budget)

@@ -71,7 +71,7 @@ fieldSorts =
     ∷ oneField expression  -- 28 not
     ∷ []
 
--- the sort of field j, 1 to 9, of a kind; a kind without a line uses no field
+-- the sort of field j, 1 to 9, of a kind; past the last line no field is used. (A number that is no kind is refused at its own word.)
 unfoldable pub fieldSort : (kind j : ℕ) → Sort
 fieldSort kind j = getD (getD fieldSorts kind noField) (j - 1) unused
 

@@ -139,6 +139,11 @@ due budget deepest depth visits = cond (ltb visits budget) (cond (leb depth deep
 
 -- ════ Applying a parsing node ════
 
+-- Who calls whom: `apply` is asked to apply a node. Where a visit is due it asks `admit`, which looks at budget and depth and lets `visit` do what the
+-- node does; `visit` applies the node's parts by the `apply′` it is handed, and a repeat's rounds by the `rounds′`: these are `apply` and `rounds`
+-- again with one less fuel. A definition here must be seen to end, and a grammar may call itself without end, so fuel is counted down; a visit uses
+-- one, so more fuel than visits are left is always enough, and any more gives the same (proofs/Fuel.antt).
+
 module _ (S : Setting) where
   -- the body of rule r has matched: 'evaluates the returned nodes there, then sets its receiving slots left to right'
   unfoldable pub returning : ℕ → Slots → List ℕ → ℕ → Slots → Tally → Applied

@@ -80,7 +80,7 @@ typeOf G env (terminal k byte) = some env
 typeOf G env (sequence k p q) = andThen (typeOf G env p) (λ env′. typeOf G env′ q)
 -- Choice: both parts pass from the same start and leave the same slots
 typeOf G env (choice k p q) = andThen (typeOf G env p) (λ env₁. andThen (typeOf G env q) (λ env₂. provided (same env₁ env₂) (some env₁)))
--- Repeat, not: the part leaves the slots as at its start
+-- 'Repeat, not: the part leaves the slots as at its start (our rule)'
 typeOf G env (repeat k p) = andThen (typeOf G env p) (λ env′. provided (same env env′) (some env))
 typeOf G env (unless k p) = andThen (typeOf G env p) (λ env′. provided (same env env′) (some env))
 -- Call: arguments have the callee's inherited types; receiving slots are updated left to right with its returned types

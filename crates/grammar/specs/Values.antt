@@ -47,8 +47,8 @@ sliceOf message literals s = cond (s .literal) literals message
 abbrev pub spanFits : (message literals : List ℕ) → Span → Bool
 spanFits message literals s = leb (s .start + s .length) (length (sliceOf message literals s))
 
--- 'Text is where it stands: its bytes are handed out as a part of the message or of the literals'. Of 'a part that doesn't fit the slice it
--- names' they are 'an empty part'
+-- 'Text is where it stands: its bytes are handed out as a part of the message or of the literals, never a copy'. Of 'a part that doesn't fit the
+-- slice it names' they are 'an empty part at the start of the message'. These are the bytes; where the part stands is `textPlace` of crate values
 unfoldable pub spanBytes : (message literals : List ℕ) → Span → List ℕ
 spanBytes message literals s =
     cond (spanFits message literals s) (take (s .length) (drop (s .start) (sliceOf message literals s))) []

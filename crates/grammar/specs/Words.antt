@@ -85,7 +85,7 @@ nodes a b c d e f g h i =
     ∷ N.Negation a
     ∷ []
 
--- the node of a kind with these fields; a kind that has no line is unknown
+-- the node of a kind with these fields; a number that is no kind is Unknown, with or without a line
 unfoldable pub nodeFor : (kind a b c d e f g h i : ℕ) → Node
 nodeFor kind a b c d e f g h i = getD (nodes a b c d e f g h i) kind N.Unknown
 
