@@ -1,0 +1,10 @@
+pub mod Size
+pub mod Lines
+pub mod Steps
+pub mod Writes
+pub mod Found
+pub mod Whole
+pub mod Fills
+pub mod Back
+pub mod Exactly
+pub mod Unique

@@ -1,0 +1,50 @@
+use Rattle.machine.proofs.Weight.{falls, driven-step, driven-rest}
+use Rattle.machine.specs.Drive.{weight, driven}
+use Rattle.machine.specs.Step.{Stepped, with}
+use lib.ListN.{length}
+use native.Mathlib.Omega.{arith}
+use denote.Ref.{now}
+use mathlib.Core.Path.{_≡_, refl, sym, ap, _∙_}
+use Rattle.machine.proofs.steps.drive.Statement.{statement}
+use Rattle.machine.proofs.steps.drive.Tie as tie
+
+abbrev Inv-loop : tie.InvT-loop
+Inv-loop words literals message budget work₀ now₀ work now = (driven words literals message budget (with now work) ≡ driven words literals message budget (with now₀ work₀)) × (length work ≡ length work₀)
+
+abbrev μ-loop : tie.MeasureT-loop
+μ-loop words literals message budget work₀ now₀ work now = weight budget now
+
+loop-holds : tie.Need-loop-holds Inv-loop μ-loop
+loop-holds c = (refl, refl)
+
+goes-on-requires : tie.Need-goes-on-requires Inv-loop μ-loop
+goes-on-requires c κs = tt
+
+step-requires : tie.Need-step-requires Inv-loop μ-loop
+step-requires c κs = tt
+
+loop-less : tie.Need-loop-less Inv-loop μ-loop
+loop-less c = omega (arith, falls (now (c .before .before .before .before .before .before .before .before .before .before .before .args .words)) (now (c .before .before .before .before .before .before .before .before .before .before .before .args .literals)) (now (c .before .before .before .before .before .before .before .before .before .before .before .args .message)) (c .before .before .before .before .before .before .before .before .before .before .before .args .budget) (c .before .before .before .before .before .before .loop .now) (c .before .before .before .before .before .before .loop .work) (sym (c .before .before .before .before .before .goes-on .ensures) ∙ c .before .before .before .before .if1 .taken), ap (λ (s : Stepped). weight (c .before .before .before .before .before .before .before .before .before .before .before .args .budget) (s .run)) (c .before .before .step .ensures))
+
+loop-again : tie.Need-loop-again Inv-loop μ-loop
+loop-again c = (ap (driven (now (c .before .before .before .before .before .before .before .before .before .before .before .args .words)) (now (c .before .before .before .before .before .before .before .before .before .before .before .args .literals)) (now (c .before .before .before .before .before .before .before .before .before .before .before .args .message)) (c .before .before .before .before .before .before .before .before .before .before .before .args .budget)) (c .before .before .step .ensures) ∙ (driven-step (now (c .before .before .before .before .before .before .before .before .before .before .before .args .words)) (now (c .before .before .before .before .before .before .before .before .before .before .before .args .literals)) (now (c .before .before .before .before .before .before .before .before .before .before .before .args .message)) (c .before .before .before .before .before .before .before .before .before .before .before .args .budget) (with (c .before .before .before .before .before .before .loop .now) (c .before .before .before .before .before .before .loop .work)) (sym (c .before .before .before .before .before .goes-on .ensures) ∙ c .before .before .before .before .if1 .taken) ∙ c .before .before .before .before .before .before .loop .inv .0), c .before .before .step .kept .1 .1 .1 .1 .1 .0 ∙ c .before .before .before .before .before .before .loop .inv .1)
+
+same-length : tie.Need-same-length Inv-loop μ-loop
+same-length c = c .before .before .loop .inv .1
+
+returns : tie.Need-returns Inv-loop μ-loop
+returns c = sym (driven-rest (now (c .before .before .before .before .before .before .before .args .words)) (now (c .before .before .before .before .before .before .before .args .literals)) (now (c .before .before .before .before .before .before .before .args .message)) (c .before .before .before .before .before .before .before .args .budget) (with (c .before .before .loop .now) (c .before .before .loop .work)) (sym (c .before .goes-on .ensures) ∙ c .if1 .left)) ∙ c .before .before .loop .inv .0
+
+pub drive-spec : {M : Type 1} → statement M
+drive-spec =
+    tie.close
+    (tie.spec
+    Inv-loop
+    μ-loop
+    loop-holds
+    goes-on-requires
+    step-requires
+    loop-less
+    loop-again
+    same-length
+    returns)

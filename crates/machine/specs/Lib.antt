@@ -1,0 +1,3 @@
+pub mod Step
+pub mod Drive
+pub mod Results

@@ -1,0 +1,74 @@
+// One step, and the steps until the run rests.
+ghost use mathlib.Core.Path.{_≡_};
+ghost use Rattle.machine.specs.Step.{with, stepOf, returnedBy};
+ghost use Rattle.machine.specs.Drive.{goesOn, driven};
+use crate::Given;
+use crate::Run;
+use crate::Stage;
+use crate::returns::back_failed;
+use crate::returns::back_matched;
+use crate::visits::enter;
+
+// One visit, or one return. A run at rest stays as it is.
+pub fn step<'a>(
+    words: &[u16],
+    literals: &'a [u8],
+    message: &'a [u8],
+    budget: u32,
+    run: Run,
+    work: &mut [u32],
+) -> Run
+    ensures { λ r. ⌜ with r (now (work .exit)) ≡ stepOf (now (words .entry)) (now (literals .entry)) (now (message .entry)) budget run (now (work .entry)) ⌝ }
+{
+    let stage = run.stage;
+    match stage {
+        Stage::Enter(k) => enter(words, literals, message, budget, k, run, work),
+        Stage::Matched => back_matched(words, literals, message, run, work),
+        Stage::Failed => back_failed(words, literals, message, run, work),
+        _ => run,
+    }
+}
+
+// A run goes on where a visit is due and some budget is left, and where there is a frame to return to.
+fn goes_on(budget: u32, run: Run) -> bool
+    ensures { λ r. ⌜ r ≡ goesOn budget run ⌝ }
+{
+    let stage = run.stage;
+    match stage {
+        Stage::Enter(_) => run.visits < budget,
+        Stage::Matched => 0 < run.frames,
+        Stage::Failed => 0 < run.frames,
+        _ => false,
+    }
+}
+
+// Steps until the run rests.
+pub fn drive<'a>(
+    words: &[u16],
+    literals: &'a [u8],
+    message: &'a [u8],
+    budget: u32,
+    run: Run,
+    work: &mut [u32],
+) -> Run
+    ensures { λ r. ⌜ with r (now (work .exit)) ≡ driven (now (words .entry)) (now (literals .entry)) (now (message .entry)) budget (with run (now (work .entry))) ⌝ }
+{
+    let mut now = run;
+    while goes_on(budget, now) {
+        now = step(words, literals, message, budget, now, work);
+    }
+    now
+}
+
+// What rule q returns, in the slots in use.
+pub fn returned<'a>(
+    words: &[u16],
+    literals: &'a [u8],
+    message: &'a [u8],
+    q: u16,
+    work: &[u32],
+) -> Given
+    ensures { λ r. ⌜ r ≡ returnedBy (now (words .entry)) (now (literals .entry)) (now (message .entry)) q (now (work .entry)) ⌝ }
+{
+    crate::results::returned_by(words, literals, message, work, q)
+}

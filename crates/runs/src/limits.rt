@@ -1,0 +1,30 @@
+// The checks after those of the table.
+ghost use mathlib.Core.Path.{_≡_};
+ghost use lib.Dec.{leb};
+ghost use Rattle.grammar.specs.declared.Verdict.the-variants.{Long, Work};
+ghost use Rattle.grammar.specs.Form.{andThen, unlessOk};
+ghost use Rattle.grammar.specs.Answer.{workWords};
+use grammar::Verdict;
+
+// "message over 65,535 bytes", then "work area under W words".
+pub fn limits(message: usize, work: usize) -> Verdict
+    ensures { λ r. ⌜ r ≡ andThen (unlessOk (leb message 65535) Long) (unlessOk (leb workWords work) Work) ⌝ }
+{
+    if 65535 < message {
+        return Verdict::Long;
+    }
+    if work < 9760 {
+        return Verdict::Work;
+    }
+    Verdict::Passed
+}
+
+// One check comes after another.
+pub fn and_then(first: Verdict, later: Verdict) -> Verdict
+    ensures { λ r. ⌜ r ≡ andThen first later ⌝ }
+{
+    match first {
+        Verdict::Passed => later,
+        _ => first,
+    }
+}

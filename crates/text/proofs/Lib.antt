@@ -1,0 +1,7 @@
+pub mod Writing
+pub mod Taking
+pub mod Decimals
+pub mod Numbers
+pub mod Keys
+pub mod Pairs
+pub mod Unique

@@ -1,0 +1,3 @@
+pub mod Stored
+pub mod Written
+pub mod Found

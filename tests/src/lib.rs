@@ -1,0 +1,8 @@
+//! Styrmflo, reader of message grammars for lift displays: a second, plain
+//! reading of document 01 and the means to compare it with the proved reader.
+
+pub mod compare;
+pub mod numbers;
+pub mod random;
+pub mod reference;
+pub mod subject;

@@ -1,0 +1,9 @@
+//! Document 01, read once more: recursive, direct, with no eye to speed.
+
+pub mod check;
+pub mod console;
+pub mod listing;
+pub mod run;
+pub mod table;
+pub mod text;
+pub mod types;
