@@ -2,6 +2,8 @@
 //! reading of document 01 and the means to compare it with the proved reader.
 
 pub mod compare;
+#[cfg(feature = "library")]
+pub mod library;
 pub mod numbers;
 pub mod random;
 pub mod reference;

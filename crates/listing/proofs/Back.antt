@@ -6,27 +6,22 @@ use Prim.Native.Nat.{ℕ, zero, suc, _+_, _*_, _≤_, _<_}
 use native.Mathlib.Omega.{arith}
 use lib.Dec.{eqb}
 use lib.ListN.{length, take, drop, length-drop, take-append-drop}
-use lib.Seq.{drop-drop, take-add, take-all, length-take-le}
+use lib.Seq.{take-add, take-all, length-take-le}
 use borrow.Author.Tests.{eq-eqb}
 use Rattle.laws.specs.Below.{AllBelow, below-take, below-drop}
 use Rattle.laws.specs.Parts.{Stands, stands-as, stands-first, stands-second}
-use Rattle.text.specs.declared.Place.{Place}
 use Rattle.text.specs.declared.Place.the-variants as P
-use Rattle.text.specs.declared.Number.{Number}
 use Rattle.text.specs.declared.Number.the-variants as N
-use Rattle.text.specs.declared.Bytes.{Bytes}
 use Rattle.text.specs.declared.Bytes.the-variants as B
-use Rattle.text.specs.Stored.{Taken, taking, also}
-use Rattle.text.specs.Found.{onPlace, onNumber, onBytes, pairs}
+use Rattle.text.specs.Stored.{taking, also}
 use Rattle.text.specs.Written.{decimal, hex}
 use Rattle.text.proofs.Keys.{key-reads}
 use Rattle.text.proofs.Numbers.{number-reads}
 use Rattle.text.proofs.Pairs.{pairs-reads}
-use Rattle.listing.specs.declared.reader.Lines.{Lines}
 use Rattle.listing.specs.declared.reader.Lines.the-variants as L
 use Rattle.listing.specs.declared.reader.Head.the-variants as H
 use Rattle.listing.specs.Listing.{rulesKey, nodesKey, literalsKey, ruleKey, nodeKey, ending, numbers, line, recordLines, literalsLine}
-use Rattle.listing.specs.Reading.{within, numberWithin, pairsWithin, numbersAt, lineAt, linesAt, countAt, literalsAt, thirdLine, secondLine, headAt, nodeLinesAt, bodyAt, onLines}
+use Rattle.listing.specs.Reading.{within, numbersAt, lineAt, linesAt, countAt, literalsAt, headAt, bodyAt}
 
 ending-low : (k : ℕ) → ending k < 48
 unfolding ending

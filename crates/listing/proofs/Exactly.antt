@@ -1,20 +1,18 @@
 -- The listing of a table reads back as that table; each accepted listing is written again byte for byte; and the plain meaning of reading.
 -- Assumes nothing.
 use mathlib.Core.Path.{_≡_, refl, sym, ap, _∙_, subst}
-use mathlib.Core.Logic.{_↔_}
-use mathlib.Core.List.{List, [], _∷_, _++_, append-assoc, append-nil}
+use mathlib.Core.List.{List, [], _∷_, _++_, append-nil}
 use mathlib.Core.Bool.{Bool, true, false, cond}
 use Prim.Native.Nat.{ℕ, _+_, _*_, _≤_, _<_}
 use native.Mathlib.Omega.{arith}
-use lib.Dec.{ltb, leb}
+use lib.Dec.{ltb}
 use lib.ListN.{length, take, drop, getD, length-append, length-drop}
 use lib.Seq.{drop-drop, drop-length, take-append-seam}
 use borrow.Author.Tests.{le-ltb, ltb-false, le-leb}
-use Rattle.laws.specs.Below.{AllBelow, below-drop}
+use Rattle.laws.specs.Below.{below-drop}
 use Rattle.laws.specs.Parts.{Stands, stands, stands-as, stands-then, stands-first, stands-second}
 use Rattle.laws.specs.Stores.{over}
-use Rattle.grammar.specs.Words.{ruleCount, nodeCount, literalCount}
-use Rattle.grammar.specs.Form.{sizeOk}
+use Rattle.grammar.specs.Words.{ruleCount, nodeCount}
 use Rattle.text.specs.Stored.{Taken, taking}
 use Rattle.listing.specs.declared.reader.Lines.{Lines}
 use Rattle.listing.specs.declared.reader.Lines.the-variants as L
@@ -23,9 +21,9 @@ use Rattle.listing.specs.declared.reader.Head.the-variants as H
 use Rattle.listing.specs.declared.Reading.the-variants.{Done, Line, Room}
 use Rattle.listing.specs.declared.Writing.the-variants.{Done as Wrote}
 use Rattle.listing.specs.Listing.{ruleKey, nodeKey, recordLines, line, headLines, bodyLines, listing}
-use Rattle.listing.specs.Reading.{headAt, bodyAt, onHead, onLines, Filled, filled, fill, refused, readBody, readRest, readFrom}
+use Rattle.listing.specs.Reading.{headAt, bodyAt, onHead, onLines, Filled, fill, refused, readBody, readRest, readFrom}
 use Rattle.listing.specs.Writing.{write, written}
-use Rattle.listing.specs.Plain.{Table, Listed, AcceptedExactly}
+use Rattle.listing.specs.Plain.{Listed, AcceptedExactly}
 use Rattle.listing.proofs.Size.{Sized, within-right, size-facts, size-right}
 use Rattle.listing.proofs.Whole.{head-found, body-found}
 use Rattle.listing.proofs.Back.{head-back, body-back}

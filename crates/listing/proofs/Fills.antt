@@ -1,5 +1,5 @@
 -- The reader's answers: what its two passes leave is what Reading.antt says. Assumes nothing.
-use mathlib.Core.Path.{_≡_, refl, sym, ap, _∙_}
+use mathlib.Core.Path.{_≡_, sym, ap, _∙_}
 use mathlib.Core.List.{List, [], _∷_, _++_}
 use Prim.Native.Nat.{ℕ, _+_, _*_, _≤_, _<_}
 use native.Mathlib.Omega.{arith}
@@ -14,7 +14,7 @@ use Rattle.listing.specs.declared.reader.Lines.the-variants as L
 use Rattle.listing.specs.declared.reader.Head.{Head}
 use Rattle.listing.specs.declared.reader.Head.the-variants as H
 use Rattle.listing.specs.declared.Reading.the-variants.{Done, Line, Room}
-use Rattle.listing.specs.Reading.{onLines, onHead, headAt, bodyAt, Filled, filled, fill, refused, readBody, readRest, readFrom}
+use Rattle.listing.specs.Reading.{headAt, bodyAt, filled, readBody, readRest, readFrom}
 use Rattle.listing.proofs.Whole.{head-found, body-found}
 
 -- a run of stores over what a pass over an empty front left
@@ -22,9 +22,6 @@ stored-front : (l x after front : List ℕ) → x ++ l ≡ l → length front �
 stored-front l x after front e h s = s ∙ ap (λ (z : List ℕ). sets z 0 front) e ∙ sets-front l front h
 
 module _ (text : List ℕ) (at first : ℕ) (words literals : List ℕ) {x : List ℕ} {g : Head} (h : Took (headAt text first at) [] 0 g x) where
-  result : Filled
-  result = readFrom text at first words literals
-
   kept : x ++ literals ≡ literals
   kept = nothing-taken h literals
 

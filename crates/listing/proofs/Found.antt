@@ -2,7 +2,7 @@
 use mathlib.Core.Path.{_≡_, refl, sym, ap, _∙_}
 use mathlib.Core.List.{List, [], _∷_, _++_, append-assoc}
 use mathlib.Core.Bool.{Bool, true, false, cond}
-use Prim.Native.Nat.{ℕ, zero, suc, _+_, _*_, _≤_, _<_}
+use Prim.Native.Nat.{ℕ, zero, suc, _+_, _*_, _≤_}
 use native.Mathlib.Omega.{arith}
 use lib.ListN.{length, take, drop, length-append}
 use lib.Seq.{take-at, drop-at}
@@ -16,10 +16,10 @@ use Rattle.text.specs.declared.Bytes.{Bytes}
 use Rattle.text.specs.declared.Bytes.the-variants as B
 use Rattle.text.specs.Stored.{Taken, taking, also}
 use Rattle.text.specs.Found.{onPlace, onNumber, onBytes, pairs}
-use Rattle.text.specs.Written.{decimal, hex}
+use Rattle.text.specs.Written.{decimal}
 use Rattle.text.proofs.Keys.{key-stands}
 use Rattle.text.proofs.Numbers.{number-stands, number-within}
-use Rattle.text.proofs.Pairs.{Bytes-stand, pairs-stand}
+use Rattle.text.proofs.Pairs.{pairs-stand}
 use Rattle.listing.specs.declared.reader.Lines.{Lines}
 use Rattle.listing.specs.declared.reader.Lines.the-variants as L
 use Rattle.listing.specs.Listing.{literalsKey, ending, numbers, line, recordLines, literalsLine}

@@ -1,5 +1,5 @@
 -- The lines of a listing, as a writer goes through them. Assumes nothing.
-use mathlib.Core.Path.{_≡_, refl, ap, _∙_}
+use mathlib.Core.Path.{_≡_, refl}
 use mathlib.Core.List.{List, [], _∷_, _++_, append-assoc}
 use Prim.Native.Nat.{ℕ, zero, suc, _+_, _-_, _*_, _≤_, _<_}
 use native.Mathlib.Numerals.{sub-one}
@@ -7,7 +7,7 @@ use native.Mathlib.Omega.{arith}
 use lib.ListN.{length, take, drop, getD, length-append, length-drop, length-take, drop-of-length-le}
 use lib.Seq.{drop-drop}
 use Rattle.laws.specs.Parts.{drop-one, take-rest}
-use Rattle.grammar.specs.Words.{ruleCount, nodeCount, ruleStart}
+use Rattle.grammar.specs.Words.{ruleCount, nodeCount}
 use Rattle.text.specs.Written.{decimal, hex}
 use Rattle.text.proofs.Decimals.{decimal-length}
 use Rattle.text.proofs.Pairs.{hex-length}

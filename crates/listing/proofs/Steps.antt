@@ -1,12 +1,11 @@
 -- Reading a listing, turn by turn: what a definition of Reading.antt is once the code has found something. Assumes nothing.
 use mathlib.Core.Path.{_≡_, refl, sym, ap, _∙_}
-use mathlib.Core.List.{List, [], _∷_, _++_, append-nil}
-use mathlib.Core.Bool.{Bool, true, false, cond}
-use Prim.Native.Nat.{ℕ, zero, suc, _+_, _-_, _*_, _≤_, _<_}
+use mathlib.Core.List.{List, [], _∷_, append-nil}
+use mathlib.Core.Bool.{true, false}
+use Prim.Native.Nat.{ℕ, zero, suc, _+_, _-_, _≤_, _<_}
 use native.Mathlib.Numerals.{sub-one}
 use native.Mathlib.Omega.{arith}
-use lib.Dec.{eqb}
-use lib.ListN.{length, drop, length-append}
+use lib.ListN.{length, drop}
 use borrow.Author.Tests.{ne-eqb, eq-eqb}
 use Rattle.text.specs.declared.Place.{Place}
 use Rattle.text.specs.declared.Place.the-variants as P
@@ -20,8 +19,8 @@ use Rattle.text.proofs.Taking.{took-to}
 use Rattle.listing.specs.declared.reader.Lines.{Lines}
 use Rattle.listing.specs.declared.reader.Lines.the-variants as L
 use Rattle.listing.specs.declared.reader.Head.the-variants as H
-use Rattle.listing.specs.Listing.{rulesKey, nodesKey, literalsKey, ruleKey, nodeKey, ending}
-use Rattle.listing.specs.Reading.{onLines, within, numberWithin, pairsWithin, decimalAt, keyAt, numbersAt, lineAt, linesAt, countAt, literalsAt, thirdLine, secondLine, headAt, ended, nodeLinesAt, bodyAt}
+use Rattle.listing.specs.Listing.{rulesKey, nodesKey, literalsKey, ruleKey, ending}
+use Rattle.listing.specs.Reading.{within, numberWithin, pairsWithin, decimalAt, keyAt, numbersAt, lineAt, linesAt, countAt, literalsAt, thirdLine, headAt, ended, nodeLinesAt, bodyAt}
 
 module _ (text : List ℕ) where
   -- ════ The decimals of a line ════

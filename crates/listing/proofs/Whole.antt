@@ -1,6 +1,6 @@
 -- What a reader finds stands in the text: the first three lines, and the others up to the text's end. Assumes nothing.
-use mathlib.Core.Path.{_≡_, refl, sym, ap, _∙_}
-use mathlib.Core.List.{List, [], _∷_, _++_, append-nil}
+use mathlib.Core.Path.{_≡_, refl, ap, _∙_}
+use mathlib.Core.List.{List, [], _∷_, _++_}
 use mathlib.Core.Bool.{Bool, true, false, cond}
 use Prim.Native.Nat.{ℕ, zero, suc, _+_, _*_, _≤_}
 use native.Mathlib.Omega.{arith}
@@ -14,15 +14,14 @@ use Rattle.text.specs.declared.Number.{Number}
 use Rattle.text.specs.declared.Number.the-variants as N
 use Rattle.text.specs.declared.Bytes.{Bytes}
 use Rattle.text.specs.declared.Bytes.the-variants as B
-use Rattle.text.specs.Stored.{Taken, taking, also}
+use Rattle.text.specs.Stored.{taking}
 use Rattle.text.specs.Found.{onNumber, onBytes}
 use Rattle.listing.specs.declared.reader.Lines.{Lines}
 use Rattle.listing.specs.declared.reader.Lines.the-variants as L
-use Rattle.listing.specs.declared.reader.Head.{Head}
 use Rattle.listing.specs.declared.reader.Head.the-variants as H
 use Rattle.listing.specs.Listing.{rulesKey, nodesKey, ruleKey, nodeKey, line, recordLines, literalsLine}
 use Rattle.listing.specs.Reading.{onLines, linesAt, countAt, literalsAt, thirdLine, secondLine, headAt, ended, nodeLinesAt, bodyAt}
-use Rattle.listing.proofs.Found.{Words-stand, lines-found, Count-stands, count-found, Literals-stand, literals-found}
+use Rattle.listing.proofs.Found.{Words-stand, lines-found, Count-stands, count-found, literals-found}
 
 -- so many lines say nothing of the words after theirs
 pub records-front : (key : List ℕ) (width k : ℕ) (a b : List ℕ) → k * width ≤ length a → recordLines key width k (a ++ b) ≡ recordLines key width k a

@@ -1,5 +1,5 @@
 -- The writer's answers: what its two passes leave is what Writing.antt says. Assumes nothing.
-use mathlib.Core.Path.{_≡_, refl, sym, ap, _∙_}
+use mathlib.Core.Path.{_≡_, ap, _∙_}
 use mathlib.Core.List.{List, [], _++_}
 use mathlib.Core.Bool.{true, false}
 use Prim.Native.Nat.{ℕ, _≤_, _<_}
@@ -9,7 +9,7 @@ use lib.Seq.{sets}
 use borrow.Author.Tests.{le-leb, lt-leb}
 use Rattle.laws.specs.Stores.{sets-front, over}
 use Rattle.grammar.specs.Form.{sizeOk}
-use Rattle.text.specs.Stored.{Wrote, placeAfter}
+use Rattle.text.specs.Stored.{Wrote}
 use Rattle.text.proofs.Writing.{nothing-stored}
 use Rattle.listing.specs.declared.Writing.the-variants.{Done, Size, Out}
 use Rattle.listing.specs.Listing.{listing}

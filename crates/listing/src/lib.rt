@@ -1,12 +1,13 @@
 // The listing of a table (document 01, "Listing and console"): written into a lent slice, and read off a text.
 // Writer and reader go over their text twice with the same functions: the first time with an empty slice, which measures or judges and stores nothing.
 ghost use mathlib.Core.Path.{_≡_};
-ghost use mathlib.Core.Bool.{true};
 ghost use Rattle.listing.specs.Writing.{write, written};
 ghost use Rattle.listing.specs.Reading.{readFrom, read, filled};
+
 mod reader;
 mod sizes;
 mod writer;
+
 use crate::reader::Head;
 use crate::reader::Lines;
 
@@ -31,8 +32,8 @@ pub fn write(words: &[u16], literals: &[u8], text: &mut [u8]) -> Writing
     if !sizes::size_ok(words, literals.len()) {
         return Writing::Size;
     }
-    let nothing = 0;
-    let length = writer::put_listing(&mut text[..nothing], 0, words, literals);
+    let measuring = 0;
+    let length = writer::put_listing(&mut text[..measuring], 0, words, literals);
     if text.len() < length {
         return Writing::Out;
     }
@@ -51,9 +52,9 @@ pub fn read_from(
 ) -> Reading
     ensures { λ r. ⌜ filled r (now (words .exit)) (now (literals .exit)) ≡ readFrom (now (text .entry)) at first (now (words .entry)) (now (literals .entry)) ⌝ }
 {
-    let nothing = 0;
+    let judging = 0;
     let number = first as u32;
-    match reader::read_head(text, at, number, &mut literals[..nothing]) {
+    match reader::read_head(text, at, number, &mut literals[..judging]) {
         Head::Wrong(n) => Reading::Line(n),
         Head::Is(rules, nodes, bytes, next) => {
             // "ROOM is judged after line 3"
@@ -70,7 +71,7 @@ pub fn read_from(
                 rules,
                 nodes,
                 number + 3,
-                &mut words[..nothing],
+                &mut words[..judging],
                 3,
             ) {
                 Lines::Wrong(n) => Reading::Line(n),

@@ -2,8 +2,7 @@
 ghost use mathlib.Core.Path.{_≡_};
 ghost use mathlib.Core.List.{[], _∷_};
 ghost use Prim.Native.Nat.{_+_, _≤_, _*_};
-ghost use lib.ListN.{length};
-ghost use Rattle.text.specs.Stored.{Wrote, Took, also, largestPlace, placeAfter};
+ghost use Rattle.text.specs.Stored.{Wrote, Took, also, largestPlace};
 ghost use Rattle.listing.specs.Reading.{numbersAt, lineAt, linesAt, countAt, literalsAt, headAt, bodyAt};
 use crate::sizes::in_range;
 use crate::writer::ending_of;

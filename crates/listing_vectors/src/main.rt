@@ -1,26 +1,22 @@
 // Reader and writer of listings on document 01's rules. Standard input has cases, with the mark # between them: a line with the room for words, the
 // room for literals and a name, and then the text, in which @ stands for byte 0 and ^ for byte 13. Each case is read as it stands and behind three
 // other lines, and an accepted one is written again. Then the largest tables go there and back.
-ghost use mathlib.Core.Path.{_≡_};
 ghost use Prim.Native.Nat.{_≤_};
 ghost use lib.ListN.{length};
+
+mod answers;
 mod largest;
-use libc::STDOUT_FILENO;
+
+use crate::answers::read_from_into;
+use crate::answers::read_into;
+use crate::answers::say;
+use crate::answers::tell_reading;
+use crate::answers::write_into;
 use listing::Reading;
-use listing::Writing;
 use text::Number;
 
-// What a slice holds before a call: a refusal leaves it.
+// What a slice holds before a call: a refusal leaves it, and success leaves what stands past the table.
 const MARK: u8 = 119;
-
-pub fn say(bytes: &[u8]) {
-    io::write_all(STDOUT_FILENO, bytes);
-}
-
-pub fn tell(n: usize) {
-    say(b" ");
-    io::print_decimal(STDOUT_FILENO, n as u64);
-}
 
 // The index of a byte from a place on, or the text's length.
 fn index_of(text: &[u8], from: usize, byte: u8) -> usize
@@ -37,158 +33,139 @@ fn index_of(text: &[u8], from: usize, byte: u8) -> usize
     i
 }
 
+fn spelled(byte: u8) -> u8 {
+    if byte == 64 {
+        return 0;
+    }
+    if byte == 94 {
+        return 13;
+    }
+    byte
+}
+
 fn spell(text: &mut [u8]) {
     let mut i = 0;
     while i < text.len() {
-        if text[i] == 64 {
-            text[i] = 0;
-        }
-        if text[i] == 94 {
-            text[i] = 13;
-        }
+        text[i] = spelled(text[i]);
         i += 1;
     }
 }
 
-// Does every byte from a place on still hold the mark?
-fn kept_bytes(bytes: &[u8], from: usize) -> bool {
+// Says if a byte, or a word, from a place on no longer holds the mark.
+fn tell_touched_bytes(bytes: &[u8], from: usize) {
     let mut i = from;
     while i < bytes.len() {
         if bytes[i] != MARK {
-            return false;
+            say(b" TOUCHED");
+            return;
         }
         i += 1;
     }
-    true
 }
 
-fn kept_words(words: &[u16], from: usize) -> bool {
+fn tell_touched_words(words: &[u16], from: usize) {
     let mut i = from;
     while i < words.len() {
         if words[i] != 119 {
-            return false;
+            say(b" TOUCHED");
+            return;
         }
         i += 1;
     }
-    true
 }
 
-// Says the writer's answer.
-fn tell_writing(answer: Writing) {
-    match answer {
-        Writing::Done(n) => {
-            say(b" 0 0");
-            tell(n);
-        }
-        Writing::Size => say(b" 1 0"),
-        Writing::Out => say(b" 22 0"),
-    }
-}
-
-// Writes a table without its last word and with no room, then with one byte of room too few, and then with one more than it needs.
-fn again(case: &[u8], words: &[u16], literals: &[u8]) {
-    let mut text = [MARK; 512];
+// Writes a table with no room, with a byte too few, and with a byte more than it needs.
+fn write_again(case: &[u8], words: &[u16], literals: &[u8], text: &mut [u8]) {
     let n = case.len();
-    let count = words.len();
     if n == 0 {
         return;
     }
-    if 511 < n {
+    write_into(words, literals, text, 0);
+    write_into(words, literals, text, n - 1);
+    tell_touched_bytes(text, 0);
+    write_into(words, literals, text, n + 1);
+    tell_touched_bytes(text, n);
+    if text.len() < n {
         return;
     }
-    if count == 0 {
-        return;
-    }
-    let short = n - 1;
-    let long = n + 1;
-    let fewer = count - 1;
-    say(b" again");
-    tell_writing(listing::write(&words[..fewer], literals, &mut text[..0]));
-    tell_writing(listing::write(words, literals, &mut text[..short]));
-    if !kept_bytes(&text, 0) {
-        say(b" TOUCHED");
-    }
-    tell_writing(listing::write(words, literals, &mut text[..long]));
     if !check::same(&text[..n], case) {
         say(b" OTHER");
     }
-    if !kept_bytes(&text, n) {
-        say(b" TOUCHED");
-    }
 }
 
-// Says where a slice no longer holds the mark past what was filled.
-fn tell_touched(words: &[u16], literals: &[u8], word_count: usize, literal_count: usize) {
-    if !kept_words(words, word_count) {
-        say(b" TOUCHED");
+// Writes the table that was read, first without its last word, then whole.
+fn again(
+    case: &[u8],
+    words: &[u16],
+    literals: &[u8],
+    word_count: usize,
+    literal_count: usize,
+    text: &mut [u8],
+) {
+    if words.len() < word_count {
+        return;
     }
-    if !kept_bytes(literals, literal_count) {
-        say(b" TOUCHED");
+    if literals.len() < literal_count {
+        return;
     }
+    if word_count == 0 {
+        return;
+    }
+    let fewer = word_count - 1;
+    say(b" again");
+    write_into(&words[..fewer], &literals[..literal_count], text, 0);
+    write_again(case, &words[..word_count], &literals[..literal_count], text);
 }
 
-// Reads a case as it stands: number, place, and the lengths if it is done.
-fn judge(case: &[u8], words: &mut [u16], literals: &mut [u8]) {
-    match listing::read(case, words, literals) {
-        Reading::Line(n) => {
-            say(b" 20");
-            tell(n as usize);
-            tell_touched(words, literals, 0, 0);
+// Reads a case as it stands, with so much room.
+fn judge(case: &[u8], word_room: usize, literal_room: usize) {
+    let mut words = [119u16; 64];
+    let mut literals = [MARK; 64];
+    let mut text = [MARK; 512];
+    let answer = read_into(case, &mut words, &mut literals, word_room, literal_room);
+    tell_reading(answer);
+    match answer {
+        Reading::Done(w, l) => {
+            tell_touched_words(&words, w);
+            tell_touched_bytes(&literals, l);
+            again(case, &words, &literals, w, l, &mut text);
+        }
+        Reading::Line(_) => {
+            tell_touched_words(&words, 0);
+            tell_touched_bytes(&literals, 0);
         }
         Reading::Room => {
-            say(b" 21 0");
-            tell_touched(words, literals, 0, 0);
-        }
-        Reading::Done(w, l) => {
-            say(b" 0 0");
-            tell(w);
-            tell(l);
-            tell_touched(words, literals, w, l);
-            if words.len() < w {
-                return;
-            }
-            if literals.len() < l {
-                return;
-            }
-            again(case, &words[..w], &literals[..l]);
+            tell_touched_words(&words, 0);
+            tell_touched_bytes(&literals, 0);
         }
     }
 }
 
 // Reads a case behind three lines of a console text: its first line is line 4.
-fn judge_behind(case: &[u8], words: &mut [u16], literals: &mut [u8]) {
-    let mut text = [0u8; 600];
-    let at = text::put_bytes(
-        &mut text,
-        0,
-        b"mode=display\nbudget=2\nmessage=4731\n",
-    );
-    let end = text::put_bytes(&mut text, at, case);
-    if 600 < end {
+fn read_behind(case: &[u8], word_room: usize, literal_room: usize, text: &mut [u8]) {
+    let mut words = [119u16; 64];
+    let mut literals = [MARK; 64];
+    let at = text::put_bytes(text, 0, b"mode=display\nbudget=2\nmessage=4731\n");
+    let end = text::put_bytes(text, at, case);
+    if text.len() < end {
         return;
     }
     say(b" behind");
-    match listing::read_from(&text[..end], at, 4, words, literals) {
-        Reading::Line(n) => {
-            say(b" 20");
-            tell(n as usize);
-        }
-        Reading::Room => say(b" 21 0"),
-        Reading::Done(_, _) => say(b" 0 0"),
-    }
+    let answer = read_from_into(
+        &text[..end],
+        at,
+        4,
+        &mut words,
+        &mut literals,
+        word_room,
+        literal_room,
+    );
+    tell_reading(answer);
 }
 
-fn judge_both(case: &[u8], word_room: usize, literal_room: usize) {
-    let mut words = [119u16; 64];
-    let mut literals = [MARK; 64];
-    if 64 < word_room {
-        return;
-    }
-    if 64 < literal_room {
-        return;
-    }
-    judge(case, &mut words[..word_room], &mut literals[..literal_room]);
-    judge_behind(case, &mut words[..word_room], &mut literals[..literal_room]);
+fn judge_behind(case: &[u8], word_room: usize, literal_room: usize) {
+    let mut text = [0u8; 600];
+    read_behind(case, word_room, literal_room, &mut text);
 }
 
 // One case: its first line, and the rest from that line's byte 10 on.
@@ -205,9 +182,11 @@ fn run_case(head: &[u8], rest: &[u8]) {
     if head.len() < q {
         return;
     }
+    let case = &rest[1..];
     say(&head[q..]);
     say(b":");
-    judge_both(&rest[1..], word_room as usize, literal_room as usize);
+    judge(case, word_room as usize, literal_room as usize);
+    judge_behind(case, word_room as usize, literal_room as usize);
     say(b"\n");
 }
 
@@ -221,10 +200,17 @@ fn run_cases(cases: &[u8]) {
     }
 }
 
+fn run_input(input: &mut [u8], n: usize) {
+    spell(input);
+    if input.len() < n {
+        return;
+    }
+    run_cases(&input[..n]);
+}
+
 fn main() {
     let mut input = io::large_buffer();
     let n = io::read_full(0, &mut input);
-    spell(&mut input[..n]);
-    run_cases(&input[..n]);
+    run_input(&mut input, n);
     largest::run();
 }

@@ -7,18 +7,13 @@ use native.Mathlib.Omega.{arith}
 use borrow.Author.Tests.{lt-ltb, le-ltb, le-leb, lt-leb, eq-eqb, ne-eqb}
 use lib.Dec.{ltb, eqb}
 use lib.ListN.{length, getD}
-use Rattle.grammar.specs.declared.Value.{Value}
 use Rattle.grammar.specs.Words.{nodeAt}
-use Rattle.grammar.specs.Values.{Evaluated}
 use Rattle.grammar.specs.Run.{byteStands, due}
 use Rattle.grammar.specs.Answer.{deepestVisit}
-use Rattle.frames.specs.Frames.{written, nodeIn, fromIn, inSecond, restored}
+use Rattle.frames.specs.Frames.{nodeIn, fromIn, inSecond, restored}
 use Rattle.machine.specs.declared.Stage.the-variants as S
 use Rattle.machine.specs.declared.Run.{Run}
-use Rattle.machine.specs.declared.Four.{Four}
-use Rattle.machine.specs.declared.Given.the-variants.{Are}
-use Rattle.machine.specs.Results.{withValue, addedTo, added}
-use Rattle.machine.specs.Step.{with, moved, staged, visited, consumed, receivedAt, sequenceMatched, choiceFailed, failedIn, begun, admitted, matchedIn, backMatched, backFailed}
+use Rattle.machine.specs.Step.{with, moved, staged, visited, consumed, sequenceMatched, choiceFailed, failedIn, begun, admitted, matchedIn, backMatched, backFailed}
 
 -- ════ A terminal ════
 
@@ -42,34 +37,6 @@ module _ (m : List ℕ) (r : Run) (byte : ℕ) where
   pub consumed-other : r .at < length m → (getD m (r .at) 0 ≡ byte → ⊥) → consumed (byteStands m (r .at) byte && ltb (r .at) 65535) r ≡ staged r S.Failed
   unfolding consumed byteStands
   consumed-other h s = rw (lt-ltb (r .at) (length m) h, ne-eqb (getD m (r .at) 0) byte s)
-
--- ════ Up to four values ════
-
-module _ (f : Four) (i n : ℕ) (e : Evaluated Value) where
-  pub added-one : i < n → added (Are f) i n e ≡ addedTo f i e
-  unfolding added
-  added-one h = rw (lt-ltb i n h)
-
-  pub added-none : n ≤ i → added (Are f) i n e ≡ Are f
-  unfolding added
-  added-none h = rw (le-ltb i n h)
-
-pub no-such-value : (f : Four) (i : ℕ) (v : Value) → (i ≡ 0 → ⊥) → (i ≡ 1 → ⊥) → (i ≡ 2 → ⊥) → (i ≡ 3 → ⊥) → withValue f i v ≡ f
-unfolding withValue
-no-such-value f zero v p q s t = absurd (p refl)
-no-such-value f (suc zero) v p q s t = absurd (q refl)
-no-such-value f (suc (suc zero)) v p q s t = absurd (s refl)
-no-such-value f (suc (suc (suc zero))) v p q s t = absurd (t refl)
-no-such-value f (suc (suc (suc (suc i)))) v p q s t = refl
-
-module _ (i m s : ℕ) (v : Value) (w : List ℕ) where
-  pub received-one : i < m → receivedAt i m s v w ≡ written w s v
-  unfolding receivedAt
-  received-one h = rw (lt-ltb i m h)
-
-  pub received-none : m ≤ i → receivedAt i m s v w ≡ w
-  unfolding receivedAt
-  received-none h = rw (le-ltb i m h)
 
 -- ════ The phase of a sequence and of a choice ════
 

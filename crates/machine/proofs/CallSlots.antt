@@ -15,8 +15,8 @@ use Rattle.grammar.specs.Tree.{four}
 use Rattle.grammar.specs.Run.{Slots, fresh, receive}
 use Rattle.values.specs.Slots.{InRange}
 use Rattle.frames.specs.Frames.{slotsIn, unset}
-use Rattle.machine.specs.declared.Four.{Four}
-use Rattle.machine.specs.Step.{fourOf, inherited, receivedAt, received}
+use Rattle.calls.specs.declared.Four.{Four}
+use Rattle.calls.specs.Calls.{fourOf, inherited, receivedAt, received}
 use Rattle.machine.proofs.Decoded.{written-same, unset-same, written-slots, unset-slots}
 use Rattle.machine.proofs.Ranges.{AllInRange, in-range-at}
 

@@ -28,7 +28,8 @@ use Rattle.frames.specs.Frames.{cleared, slotsIn, unset}
 use Rattle.machine.specs.declared.Stage.{Stage}
 use Rattle.machine.specs.declared.Stage.the-variants as St
 use Rattle.machine.specs.declared.Run.{Run}
-use Rattle.machine.specs.Step.{Stepped, with, givenBy, returnedBy}
+use Rattle.calls.specs.Calls.{givenBy, returnedBy}
+use Rattle.machine.specs.Step.{Stepped, with}
 use Rattle.machine.specs.Drive.{rank, weight, doneAnswer, recorded, started, driven, concludedIn, concluded, rested, ran}
 use Rattle.machine.proofs.StackMachine.{entering, steps, meant}
 use Rattle.machine.proofs.TreeMachine.{measure, read}

@@ -1,7 +1,6 @@
 pub mod Arms
 pub mod Weight
 pub mod Others
-pub mod Fours
 pub mod StackMachine
 pub mod TreeMachine
 pub mod Watching

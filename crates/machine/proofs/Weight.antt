@@ -21,9 +21,10 @@ use Rattle.frames.specs.Frames.{nodeIn, phaseIn}
 use Rattle.machine.specs.declared.Stage.{Stage}
 use Rattle.machine.specs.declared.Stage.the-variants as S
 use Rattle.machine.specs.declared.Run.{Run}
-use Rattle.machine.specs.declared.Given.{Given}
-use Rattle.machine.specs.declared.Given.the-variants.{Are, Ends}
-use Rattle.machine.specs.Step.{Stepped, with, moved, staged, visited, endedAt, consumed, updated, judged, constrained, returned, opened, sequenceMatched, choiceFailed, givenBack, failedIn, evaluated, returnedBy, called, begun, admitted, matchedIn, backMatched, backFailed, stepIn, stepOf, stepsOf}
+use Rattle.calls.specs.declared.Given.{Given}
+use Rattle.calls.specs.declared.Given.the-variants.{Are, Ends}
+use Rattle.calls.specs.Calls.{evaluated, returnedBy}
+use Rattle.machine.specs.Step.{Stepped, with, moved, staged, visited, endedAt, consumed, updated, judged, constrained, returned, opened, sequenceMatched, choiceFailed, givenBack, failedIn, called, begun, admitted, matchedIn, backMatched, backFailed, stepIn, stepOf, stepsOf}
 use Rattle.machine.specs.Drive.{rank, weight, goesOnIn, goesOn, driven}
 use Rattle.machine.proofs.Arms.{admitted-none, admitted-deep, admitted-fine, matched-rests, failed-rests}
 

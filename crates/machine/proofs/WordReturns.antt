@@ -19,7 +19,8 @@ use Rattle.grammar.specs.Answer.{workWords}
 use Rattle.frames.specs.Frames.{base, slotsIn, nodeIn, phaseIn, fromIn, restored}
 use Rattle.machine.specs.declared.Stage.the-variants as St
 use Rattle.machine.specs.declared.Run.{Run}
-use Rattle.machine.specs.Step.{with, moved, endedAt, givenBy, fourOf, returned, sequenceMatched, choiceFailed, givenBack, failedIn, returnedBy, matchedIn}
+use Rattle.calls.specs.Calls.{givenBy, fourOf, returnedBy}
+use Rattle.machine.specs.Step.{with, moved, endedAt, returned, sequenceMatched, choiceFailed, givenBack, failedIn, matchedIn}
 use Rattle.machine.proofs.StackMachine.{entering, matching, failing, resume}
 use Rattle.machine.proofs.NodeMachine as Node
 use Rattle.machine.proofs.NodeMachine.{NodeState, NodeFrame, nodeFrame}

@@ -27,7 +27,8 @@ use Rattle.frames.specs.Frames.{base, slotsIn, written, pushed}
 use Rattle.machine.specs.declared.Stage.{Stage}
 use Rattle.machine.specs.declared.Stage.the-variants as St
 use Rattle.machine.specs.declared.Run.{Run}
-use Rattle.machine.specs.Step.{Stepped, with, staged, endedAt, consumed, updated, constrained, givenBy, fourOf, called}
+use Rattle.calls.specs.Calls.{givenBy, fourOf}
+use Rattle.machine.specs.Step.{Stepped, with, staged, endedAt, consumed, updated, constrained, called}
 use Rattle.machine.specs.Step.{opened, begun}
 use Rattle.machine.specs.Step as Word
 use Rattle.machine.proofs.StackMachine.{entering, matching, failing, halted, resume, withArguments}

@@ -14,9 +14,10 @@ use Rattle.frames.specs.Frames.{cleared, unset}
 use Rattle.machine.specs.declared.Stage.{Stage}
 use Rattle.machine.specs.declared.Stage.the-variants as S
 use Rattle.machine.specs.declared.Run.{Run}
-use Rattle.machine.specs.declared.Given.{Given}
-use Rattle.machine.specs.declared.Given.the-variants.{Are, Ends}
-use Rattle.machine.specs.Step.{Stepped, with, returnedBy, stepsOf}
+use Rattle.calls.specs.declared.Given.{Given}
+use Rattle.calls.specs.declared.Given.the-variants.{Are, Ends}
+use Rattle.calls.specs.Calls.{returnedBy}
+use Rattle.machine.specs.Step.{Stepped, with, stepsOf}
 
 -- What falls with each step: the visits left, the frames, and the stage. At rest a step changes nothing, so as many steps as this are enough
 unfoldable pub rank : Stage → ℕ

@@ -1,3 +1,2 @@
 pub mod Step
 pub mod Drive
-pub mod Results

@@ -1,10 +1,9 @@
 -- One step of a run, in words: what it does to the run record and to the work area. A step is a visit (document 01, 'Running'), or a return to
 -- the node of the top frame. Assumes nothing.
-use mathlib.Core.List.{List, [], _∷_, map}
+use mathlib.Core.List.{List}
 use mathlib.Core.Bool.{Bool, true, false, cond, _&&_}
 use Prim.Native.Nat.{ℕ, zero, suc, _+_}
 use lib.Dec.{ltb}
-use lib.ListN.{getD}
 use Rattle.grammar.specs.declared.Fault.the-variants.{Overflow, ZeroDivisor}
 use Rattle.grammar.specs.declared.Ending.{Ending}
 use Rattle.grammar.specs.declared.Ending.the-variants.{Budget, Deep, Stuck, «Fault» as AtFault}
@@ -13,17 +12,16 @@ use Rattle.grammar.specs.declared.Value.the-variants as Val
 use Rattle.grammar.specs.declared.Node.{Node}
 use Rattle.grammar.specs.declared.Node.the-variants as N
 use Rattle.grammar.specs.Words.{ruleWord, inheritedCount, returnedCount, nodeAt}
-use Rattle.grammar.specs.Tree.{Expr, four, exprAt}
 use Rattle.grammar.specs.Values.{Evaluated, value, ends}
-use Rattle.grammar.specs.Run.{Setting, eval, evalAll, messagePart, byteStands, Due, fine, noBudget, tooDeep, due}
-use Rattle.grammar.specs.Answer.{settingOf, deepestVisit}
-use Rattle.frames.specs.Frames.{slotsIn, written, unset, nodeIn, phaseIn, fromIn, saved, pushed, inSecond, restored}
+use Rattle.grammar.specs.Run.{messagePart, byteStands, Due, fine, noBudget, tooDeep, due}
+use Rattle.grammar.specs.Answer.{deepestVisit}
+use Rattle.frames.specs.Frames.{written, nodeIn, phaseIn, fromIn, saved, pushed, inSecond, restored}
+use Rattle.calls.specs.Calls.{inherited, received, evaluated, evaluatedFour, returnedBy}
 use Rattle.machine.specs.declared.Stage.{Stage}
 use Rattle.machine.specs.declared.Stage.the-variants as S
 use Rattle.machine.specs.declared.Run.{Run}
-use Rattle.machine.specs.declared.Four.{Four}
-use Rattle.machine.specs.declared.Given.{Given}
-use Rattle.machine.specs.declared.Given.the-variants.{Are, Ends}
+use Rattle.calls.specs.declared.Given.{Given}
+use Rattle.calls.specs.declared.Given.the-variants.{Are, Ends}
 
 -- a run record with the work area
 pub record Stepped : Type 0 where
@@ -77,32 +75,12 @@ unfoldable pub constrained : Evaluated Value → ℕ → Run → Run
 constrained (value v) k r = staged r (judged v k)
 constrained (ends why j) k r = staged r (endedAt why j)
 
--- ════ Up to four expressions ════
-
--- 'Values past m are absent'
-abbrev pub fourOf : List Value → Four
-fourOf vs = record { a = getD vs 0 Val.Absent; b = getD vs 1 Val.Absent; c = getD vs 2 Val.Absent; d = getD vs 3 Val.Absent }
-
-unfoldable pub givenBy : Evaluated (List Value) → Given
-givenBy (value vs) = Are (fourOf vs)
-givenBy (ends why j) = Ends why j
-
--- fresh slots with the inherited values in slots 0 to 3; past the callee's n they are Absent, as an unset slot is
-unfoldable pub inherited : Four → List ℕ → List ℕ
-inherited f w = written (written (written (written (unset w) 0 (f .a)) 1 (f .b)) 2 (f .c)) 3 (f .d)
+-- ════ Calls ════
 
 -- 'A call evaluates its arguments, runs the body in fresh slots'
 unfoldable pub called : Given → (body k : ℕ) → Run → List ℕ → Stepped
 called (Are f) body k r w = with (moved r (S.Enter body) (r .at) (r .frames + 1)) (inherited f (pushed w (r .frames) k (r .at)))
 called (Ends why j) body k r w = with (staged r (endedAt why j)) w
-
--- receiving slot i of m
-unfoldable pub receivedAt : (i m : ℕ) → ℕ → Value → List ℕ → List ℕ
-receivedAt i m s v w = cond (ltb i m) (written w s v) w
-
--- 'then sets its receiving slots left to right'
-unfoldable pub received : (m s t u v : ℕ) → Four → List ℕ → List ℕ
-received m s t u v f w = receivedAt 3 m v (f .d) (receivedAt 2 m u (f .c) (receivedAt 1 m t (f .b) (receivedAt 0 m s (f .a) w)))
 
 -- the body has matched: the caller's slots are back, and its receiving slots take what the rule returned
 unfoldable pub returned : Given → (m s t u v d : ℕ) → Run → List ℕ → Stepped
@@ -152,18 +130,6 @@ failedIn (N.Binary op a b) d r w = givenBack d r w
 failedIn (N.Negation a) d r w = givenBack d r w
 
 module _ (words literals message : List ℕ) where
-  -- what expression node k gives in the slots in use
-  abbrev pub evaluated : ℕ → List ℕ → Evaluated Value
-  evaluated k w = eval (settingOf words literals message) (slotsIn w) (exprAt words k)
-
-  -- what the first n of four expression nodes give, left to right
-  abbrev pub evaluatedFour : (n a b c d : ℕ) → List ℕ → Given
-  evaluatedFour n a b c d w = givenBy (evalAll (settingOf words literals message) (slotsIn w) (map (exprAt words) (four n a b c d)))
-
-  -- what rule q returns, in the slots in use
-  unfoldable pub returnedBy : ℕ → List ℕ → Given
-  returnedBy q w = evaluatedFour (returnedCount words q) (ruleWord words q 7) (ruleWord words q 8) (ruleWord words q 9) (ruleWord words q 10) w
-
   -- the visit of node k. A node that is no parsing node does as an empty one
   unfoldable pub begun : Node → ℕ → Run → List ℕ → Stepped
   begun N.Unknown k r w = with (staged r S.Matched) w
@@ -173,10 +139,10 @@ module _ (words literals message : List ℕ) where
   begun (N.Choice a b) k r w = opened k a r w
   begun (N.Repeat a) k r w = opened k a r w
   begun (N.Not a) k r w = opened k a r w
-  begun (N.Call q a b c d s t u v) k r w = called (evaluatedFour (inheritedCount words q) a b c d w) (ruleWord words q 0) k r w
+  begun (N.Call q a b c d s t u v) k r w = called (evaluatedFour words literals message (inheritedCount words q) a b c d w) (ruleWord words q 0) k r w
   begun (N.Bind s a) k r w = opened k a r w
-  begun (N.Update s e) k r w = updated (evaluated e w) s r w
-  begun (N.Constraint e) k r w = with (constrained (evaluated e w) k r) w
+  begun (N.Update s e) k r w = updated (evaluated words literals message e w) s r w
+  begun (N.Constraint e) k r w = with (constrained (evaluated words literals message e w) k r) w
   begun (N.Bool b) k r w = with (staged r S.Matched) w
   begun (N.Integer z) k r w = with (staged r S.Matched) w
   begun (N.Text start length) k r w = with (staged r S.Matched) w
@@ -202,7 +168,7 @@ module _ (words literals message : List ℕ) where
   matchedIn (N.Repeat a) d r w = with (staged r (S.Enter a)) (saved w d (r .at))
   -- 'not hands on the slots its part left, matched or failed'
   matchedIn (N.Not a) d r w = with (moved r S.Failed (r .at) d) w
-  matchedIn (N.Call q a b c e s t u v) d r w = returned (returnedBy q w) (returnedCount words q) s t u v d r w
+  matchedIn (N.Call q a b c e s t u v) d r w = returned (returnedBy words literals message q w) (returnedCount words q) s t u v d r w
   -- 'Bind consumes what its part consumes'
   matchedIn (N.Bind s a) d r w = with (moved r S.Matched (r .at) d) (written w s (messagePart (fromIn w d) (r .at)))
   matchedIn (N.Update s a) d r w = with (moved r S.Matched (r .at) d) w

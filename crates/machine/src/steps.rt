@@ -1,8 +1,7 @@
 // One step, and the steps until the run rests.
 ghost use mathlib.Core.Path.{_≡_};
-ghost use Rattle.machine.specs.Step.{with, stepOf, returnedBy};
+ghost use Rattle.machine.specs.Step.{with, stepOf};
 ghost use Rattle.machine.specs.Drive.{goesOn, driven};
-use crate::Given;
 use crate::Run;
 use crate::Stage;
 use crate::returns::back_failed;
@@ -58,17 +57,4 @@ pub fn drive<'a>(
         now = step(words, literals, message, budget, now, work);
     }
     now
-}
-
-// What rule q returns, in the slots in use.
-pub fn returned<'a>(
-    words: &[u16],
-    literals: &'a [u8],
-    message: &'a [u8],
-    q: u16,
-    work: &[u32],
-) -> Given
-    ensures { λ r. ⌜ r ≡ returnedBy (now (words .entry)) (now (literals .entry)) (now (message .entry)) q (now (work .entry)) ⌝ }
-{
-    crate::results::returned_by(words, literals, message, work, q)
 }

@@ -4,11 +4,11 @@ ghost use mathlib.Core.List.{[]};
 ghost use Rattle.grammar.specs.Answer.{answered, endingNumber, number, place, refusal};
 ghost use Rattle.machine.specs.Step.{with};
 ghost use Rattle.machine.specs.Drive.{endedAnswer, doneAnswer, concluded};
+use calls::Given;
 use grammar::Answer;
 use grammar::Ending;
 use grammar::Value;
 use grammar::Verdict;
-use machine::Given;
 use machine::Run;
 use machine::Stage;
 
@@ -84,10 +84,7 @@ pub fn conclude<'a>(
     let stage = run.stage;
     match stage {
         Stage::Enter(k) => ended(Ending::Budget, k, run),
-        Stage::Matched => done(
-            machine::steps::returned(words, literals, message, 0, work),
-            run,
-        ),
+        Stage::Matched => done(calls::returned_by(words, literals, message, work, 0), run),
         Stage::Failed => without_values(8, 0, run.visits),
         Stage::Deep(k) => ended(Ending::Deep, k, run),
         Stage::Stuck(k) => ended(Ending::Stuck, k, run),

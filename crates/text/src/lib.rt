@@ -2,7 +2,7 @@
 // storing past the end is no change, and a place stops at the largest number that a place can be.
 ghost use mathlib.Core.Path.{_≡_};
 ghost use mathlib.Core.List.{[], _∷_};
-ghost use Prim.Native.Nat.{_<_, _≤_, _+_, _^_};
+ghost use Prim.Native.Nat.{_<_, _^_};
 ghost use lib.ListN.{drop};
 ghost use lib.IntN.{natAbs};
 ghost use Rattle.text.specs.Stored.{Wrote, Took, placeAfter};

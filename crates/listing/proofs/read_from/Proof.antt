@@ -5,11 +5,6 @@ use mathlib.Core.Path.{sym, _∙_}
 use borrow.Author.Needs.{needs}
 use Rattle.listing.proofs.read_from.Statement.{statement}
 use Rattle.listing.proofs.read_from.Tie as tie
-use Rattle.listing.proofs.read_from.Reads as reads
-use Rattle.listing.proofs.read_from.Lts as lts
-use Rattle.listing.proofs.reader.fill_words.Reads as fill-words-reads
-use Rattle.listing.proofs.reader.read_body.Reads as read-body-reads
-use Rattle.listing.proofs.reader.read_head.Reads as read-head-reads
 
 -- src/lib.rt:56:47
 slice-relend-prefix-read-head : tie.Need-slice-relend-prefix-read-head

@@ -1,14 +1,9 @@
 use Rattle.listing.proofs.Writes.{write-size, write-out, write-done}
 use borrow.Author.Tests.{not-true, not-false}
-use native.Mathlib.Omega.{arith}
 use mathlib.Core.Path.{sym, _∙_}
 use borrow.Author.Needs.{needs}
 use Rattle.listing.proofs.write.Statement.{statement}
 use Rattle.listing.proofs.write.Tie as tie
-use Rattle.listing.proofs.write.Reads as reads
-use Rattle.listing.proofs.write.Lts as lts
-use Rattle.listing.proofs.sizes.size_ok.Reads as size-ok-reads
-use Rattle.listing.proofs.writer.put_listing.Reads as put-listing-reads
 
 -- src/lib.rt:31:9
 size-ok-requires : tie.Need-size-ok-requires

@@ -6,8 +6,6 @@ use Prim.Native.Nat.{_-_, _≤_}
 use mathlib.Core.Path.{_≡_, refl, sym, _∙_}
 use Rattle.text.proofs.after_key.Statement.{statement}
 use Rattle.text.proofs.after_key.Tie as tie
-use Rattle.text.proofs.after_key.Reads as reads
-use Rattle.text.proofs.after_key.Lts as lts
 
 abbrev Inv-loop : tie.InvT-loop
 Inv-loop text at key p₀ i₀ p i = (i ≤ length key) × (afterKey (drop i key) p (drop p text) ≡ afterKey key at (drop at text))

@@ -3,8 +3,6 @@ use borrow.Author.Tests.{lt-ltb, le-ltb}
 use borrow.Author.Needs.{needs}
 use Rattle.text.proofs.digit_of.Statement.{statement}
 use Rattle.text.proofs.digit_of.Tie as tie
-use Rattle.text.proofs.digit_of.Reads as reads
-use Rattle.text.proofs.digit_of.Lts as lts
 
 -- src/lib.rt:152:9
 returns : tie.Need-returns

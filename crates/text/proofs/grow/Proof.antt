@@ -5,9 +5,6 @@ use native.Mathlib.Omega.{arith}
 use borrow.Author.Needs.{needs}
 use Rattle.text.proofs.grow.Statement.{statement}
 use Rattle.text.proofs.grow.Tie as tie
-use Rattle.text.proofs.grow.Reads as reads
-use Rattle.text.proofs.grow.Lts as lts
-use Rattle.text.proofs.digit_of.Reads as digit-of-reads
 
 -- src/lib.rt:166:9
 returns : tie.Need-returns

@@ -3,8 +3,6 @@ use borrow.Author.Tests.{lt-ltb, le-ltb}
 use borrow.Author.Needs.{needs}
 use Rattle.text.proofs.hex_digit.Statement.{statement}
 use Rattle.text.proofs.hex_digit.Tie as tie
-use Rattle.text.proofs.hex_digit.Reads as reads
-use Rattle.text.proofs.hex_digit.Lts as lts
 
 -- src/lib.rt:109:16
 add-result : tie.Need-add-result

@@ -3,9 +3,6 @@ use borrow.Author.Tests.{lt-ltb, le-ltb}
 use borrow.Author.Needs.{needs}
 use Rattle.text.proofs.hex_value.Statement.{statement}
 use Rattle.text.proofs.hex_value.Tie as tie
-use Rattle.text.proofs.hex_value.Reads as reads
-use Rattle.text.proofs.hex_value.Lts as lts
-use Rattle.text.proofs.digit_of.Reads as digit-of-reads
 
 -- src/lib.rt:202:9
 digit-of-requires : tie.Need-digit-of-requires

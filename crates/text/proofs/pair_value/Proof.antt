@@ -3,9 +3,6 @@ use borrow.Author.Tests.{lt-ltb, le-ltb}
 use borrow.Author.Needs.{needs}
 use Rattle.text.proofs.pair_value.Statement.{statement}
 use Rattle.text.proofs.pair_value.Tie as tie
-use Rattle.text.proofs.pair_value.Reads as reads
-use Rattle.text.proofs.pair_value.Lts as lts
-use Rattle.text.proofs.hex_value.Reads as hex-value-reads
 
 -- src/lib.rt:218:9
 hex-value-requires : tie.Need-hex-value-requires

@@ -3,9 +3,6 @@ use mathlib.Core.Path.{sym}
 use borrow.Author.Needs.{needs}
 use Rattle.text.proofs.put.Statement.{statement}
 use Rattle.text.proofs.put.Tie as tie
-use Rattle.text.proofs.put.Reads as reads
-use Rattle.text.proofs.put.Lts as lts
-use Rattle.text.proofs.next_place.Reads as next-place-reads
 
 -- src/lib.rt:52:9
 next-place-requires : tie.Need-next-place-requires

@@ -1,4 +1,4 @@
-use Rattle.text.proofs.Writing.{wrote-then, wrote-as, wrote-length}
+use Rattle.text.proofs.Writing.{wrote-then, wrote-as}
 use Rattle.text.proofs.Decimals.{signed-negative, signed-other}
 use Rattle.text.specs.Written.{decimal}
 use mir.Facts.{toZ-ofZ}
@@ -7,11 +7,6 @@ use mathlib.Core.Path.{sym, ap, _∙_}
 use borrow.Author.Needs.{needs}
 use Rattle.text.proofs.put_signed.Statement.{statement}
 use Rattle.text.proofs.put_signed.Tie as tie
-use Rattle.text.proofs.put_signed.Reads as reads
-use Rattle.text.proofs.put_signed.Lts as lts
-use Rattle.text.proofs.magnitude.Reads as magnitude-reads
-use Rattle.text.proofs.put.Reads as put-reads
-use Rattle.text.proofs.put_decimal.Reads as put-decimal-reads
 
 -- src/lib.rt:96:9
 magnitude-requires : tie.Need-magnitude-requires

@@ -7,13 +7,9 @@ use borrow.Author.Needs.{needs}
 use native.Mathlib.Omega.{arith}
 use Prim.Native.Nat.{ℕ, _-_, _≤_}
 use mathlib.Core.List.{[], _∷_}
-use mathlib.Core.Path.{_≡_, ap}
+use mathlib.Core.Path.{ap}
 use Rattle.text.proofs.read_hex.Statement.{statement}
 use Rattle.text.proofs.read_hex.Tie as tie
-use Rattle.text.proofs.read_hex.Reads as reads
-use Rattle.text.proofs.read_hex.Lts as lts
-use Rattle.text.proofs.pair_value.Reads as pair-value-reads
-use Rattle.text.proofs.put.Reads as put-reads
 
 abbrev Inv-loop : tie.InvT-loop
 Inv-loop text at bytes₀ n₀ i₀ bytes n i = (n ≤ i) × Still (pairs n i (drop i text)) bytes n (pairs 0 at (drop at text)) bytes₀ 0

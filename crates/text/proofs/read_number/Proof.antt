@@ -4,13 +4,9 @@ use lib.ListN.{length, drop}
 use borrow.Author.Needs.{needs}
 use native.Mathlib.Omega.{arith}
 use Prim.Native.Nat.{_-_, _≤_}
-use mathlib.Core.Path.{_≡_, sym, _∙_, ap}
+use mathlib.Core.Path.{_≡_, sym, _∙_}
 use Rattle.text.proofs.read_number.Statement.{statement}
 use Rattle.text.proofs.read_number.Tie as tie
-use Rattle.text.proofs.read_number.Reads as reads
-use Rattle.text.proofs.read_number.Lts as lts
-use Rattle.text.proofs.digit_of.Reads as digit-of-reads
-use Rattle.text.proofs.grow.Reads as grow-reads
 
 abbrev Inv-loop : tie.InvT-loop
 Inv-loop text at end limit most value₀ i₀ value i = (i ≤ length text) × ((value ≤ limit) × (numberFrom end limit value i (drop i text) ≡ number end limit at (drop at text)))

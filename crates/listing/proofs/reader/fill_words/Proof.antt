@@ -4,10 +4,6 @@ use native.Mathlib.Omega.{arith}
 use borrow.Author.Needs.{needs}
 use Rattle.listing.proofs.reader.fill_words.Statement.{statement}
 use Rattle.listing.proofs.reader.fill_words.Tie as tie
-use Rattle.listing.proofs.reader.fill_words.Reads as reads
-use Rattle.listing.proofs.reader.fill_words.Lts as lts
-use Rattle.listing.proofs.reader.read_body.Reads as read-body-reads
-use Rattle.listing.proofs.reader.store.Reads as store-reads
 
 -- src/reader.rt:194:29
 cast-store : tie.Need-cast-store

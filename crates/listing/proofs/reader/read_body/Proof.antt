@@ -3,13 +3,10 @@ use Rattle.listing.proofs.Steps.{body-wrong, body-nodes, ended-wrong, e
 use Rattle.listing.proofs.Found.{lines-found}
 use Rattle.text.proofs.Taking.{took-as, took-to, took-wrote, wrote-took}
 use native.Mathlib.Omega.{arith}
-use mathlib.Core.Path.{refl, sym, _∙_}
+use mathlib.Core.Path.{sym, _∙_}
 use borrow.Author.Needs.{needs}
 use Rattle.listing.proofs.reader.read_body.Statement.{statement}
 use Rattle.listing.proofs.reader.read_body.Tie as tie
-use Rattle.listing.proofs.reader.read_body.Reads as reads
-use Rattle.listing.proofs.reader.read_body.Lts as lts
-use Rattle.listing.proofs.reader.read_lines.Reads as read-lines-reads
 
 -- src/reader.rt:166:38
 slice-aggregate-read-lines : tie.Need-slice-aggregate-read-lines

@@ -5,11 +5,6 @@ use mathlib.Core.Path.{sym, ap, _∙_}
 use borrow.Author.Needs.{needs}
 use Rattle.listing.proofs.reader.read_count.Statement.{statement}
 use Rattle.listing.proofs.reader.read_count.Tie as tie
-use Rattle.listing.proofs.reader.read_count.Reads as reads
-use Rattle.listing.proofs.reader.read_count.Lts as lts
-use Rattle.listing.proofs.sizes.in_range.Reads as in-range-reads
-use Rattle.text.proofs.after_key.Reads as after-key-reads
-use Rattle.text.proofs.read_number.Reads as read-number-reads
 
 -- src/reader.rt:107:24
 after-key-requires : tie.Need-after-key-requires

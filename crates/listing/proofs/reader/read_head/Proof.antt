@@ -1,13 +1,9 @@
 use Rattle.listing.proofs.Steps.{head-first, head-second, head-third, third-wrong, third-is}
 use Rattle.text.proofs.Taking.{took-as, took-none, took-to}
-use mathlib.Core.Path.{sym, ap, _∙_}
+use mathlib.Core.Path.{sym, _∙_}
 use borrow.Author.Needs.{needs}
 use Rattle.listing.proofs.reader.read_head.Statement.{statement}
 use Rattle.listing.proofs.reader.read_head.Tie as tie
-use Rattle.listing.proofs.reader.read_head.Reads as reads
-use Rattle.listing.proofs.reader.read_head.Lts as lts
-use Rattle.listing.proofs.reader.read_count.Reads as read-count-reads
-use Rattle.listing.proofs.reader.read_literals.Reads as read-literals-reads
 
 -- src/reader.rt:141:53
 slice-aggregate-read-count : tie.Need-slice-aggregate-read-count

@@ -3,10 +3,6 @@ use Rattle.text.proofs.Taking.{took-as, took-none}
 use borrow.Author.Needs.{needs}
 use Rattle.listing.proofs.reader.read_line.Statement.{statement}
 use Rattle.listing.proofs.reader.read_line.Tie as tie
-use Rattle.listing.proofs.reader.read_line.Reads as reads
-use Rattle.listing.proofs.reader.read_line.Lts as lts
-use Rattle.listing.proofs.reader.read_numbers.Reads as read-numbers-reads
-use Rattle.text.proofs.after_key.Reads as after-key-reads
 
 -- src/reader.rt:67:24
 after-key-requires : tie.Need-after-key-requires

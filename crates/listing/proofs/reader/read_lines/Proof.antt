@@ -7,13 +7,10 @@ use Rattle.text.proofs.Taking.{Still, still-all, still-step, still-end, still-l
 use Rattle.text.specs.Stored.{largestPlace}
 use borrow.Author.Needs.{needs}
 use native.Mathlib.Omega.{arith}
-use Prim.Native.Nat.{ℕ, _+_, _*_, _≤_}
-use mathlib.Core.Path.{_≡_, sym, _∙_}
+use Prim.Native.Nat.{_+_, _*_, _≤_}
+use mathlib.Core.Path.{sym, _∙_}
 use Rattle.listing.proofs.reader.read_lines.Statement.{statement}
 use Rattle.listing.proofs.reader.read_lines.Tie as tie
-use Rattle.listing.proofs.reader.read_lines.Reads as reads
-use Rattle.listing.proofs.reader.read_lines.Lts as lts
-use Rattle.listing.proofs.reader.read_line.Reads as read-line-reads
 
 abbrev Inv-loop : tie.InvT-loop
 Inv-loop text at key width count number words₀ from p₀ i₀ n₀ left₀ words p i n left = (i + left * width ≤ largestPlace) × ((n + left ≤ 4294967295) × Still (linesAt text key width left n p) words i (linesAt text key width count number at) words₀ from)

@@ -1,16 +1,11 @@
 use Rattle.listing.proofs.Steps.{pairs-wrong, pairs-outside, pairs-inside}
 use Rattle.listing.proofs.Steps.{literals-at-wrong, literals-at}
-use Rattle.text.proofs.Taking.{took-as, took-none, took-to}
+use Rattle.text.proofs.Taking.{took-as, took-none}
 use borrow.Author.Tests.{not-true, not-false}
-use mathlib.Core.Path.{sym, ap, _∙_}
+use mathlib.Core.Path.{sym, _∙_}
 use borrow.Author.Needs.{needs}
 use Rattle.listing.proofs.reader.read_literals.Statement.{statement}
 use Rattle.listing.proofs.reader.read_literals.Tie as tie
-use Rattle.listing.proofs.reader.read_literals.Reads as reads
-use Rattle.listing.proofs.reader.read_literals.Lts as lts
-use Rattle.listing.proofs.sizes.in_range.Reads as in-range-reads
-use Rattle.text.proofs.after_key.Reads as after-key-reads
-use Rattle.text.proofs.read_hex.Reads as read-hex-reads
 
 -- src/reader.rt:123:50
 slice-aggregate-after-key : tie.Need-slice-aggregate-after-key

@@ -5,15 +5,10 @@ use Rattle.text.proofs.Numbers.{number-within}
 use lib.ListN.{drop}
 use borrow.Author.Needs.{needs}
 use native.Mathlib.Omega.{arith}
-use Prim.Native.Nat.{ℕ, _+_}
+use Prim.Native.Nat.{_+_}
 use mathlib.Core.Path.{_≡_, refl, sym, _∙_}
 use Rattle.listing.proofs.reader.read_numbers.Statement.{statement}
 use Rattle.listing.proofs.reader.read_numbers.Tie as tie
-use Rattle.listing.proofs.reader.read_numbers.Reads as reads
-use Rattle.listing.proofs.reader.read_numbers.Lts as lts
-use Rattle.listing.proofs.reader.store.Reads as store-reads
-use Rattle.listing.proofs.writer.ending_of.Reads as ending-of-reads
-use Rattle.text.proofs.read_number.Reads as read-number-reads
 
 abbrev Inv-loop : tie.InvT-loop
 Inv-loop text at words₀ from count p₀ i₀ left₀ words p i left = (i + left ≡ from + count) × Still (numbersAt text left p) words i (numbersAt text count at) words₀ from

@@ -4,8 +4,6 @@ use mathlib.Core.Path.{sym}
 use borrow.Author.Needs.{needs}
 use Rattle.listing.proofs.reader.store.Statement.{statement}
 use Rattle.listing.proofs.reader.store.Tie as tie
-use Rattle.listing.proofs.reader.store.Reads as reads
-use Rattle.listing.proofs.reader.store.Lts as lts
 
 -- src/reader.rt:32:16
 add-result : tie.Need-add-result

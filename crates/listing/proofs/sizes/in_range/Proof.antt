@@ -1,8 +1,6 @@
 use borrow.Author.Tests.{lt-leb, le-leb}
 use Rattle.listing.proofs.sizes.in_range.Statement.{statement}
 use Rattle.listing.proofs.sizes.in_range.Tie as tie
-use Rattle.listing.proofs.sizes.in_range.Reads as reads
-use Rattle.listing.proofs.sizes.in_range.Lts as lts
 
 -- src/sizes.rt:16:9
 returns : tie.Need-returns

@@ -5,10 +5,6 @@ use mathlib.Core.Path.{sym, _∙_}
 use borrow.Author.Needs.{needs}
 use Rattle.listing.proofs.sizes.size_ok.Statement.{statement}
 use Rattle.listing.proofs.sizes.size_ok.Tie as tie
-use Rattle.listing.proofs.sizes.size_ok.Reads as reads
-use Rattle.listing.proofs.sizes.size_ok.Lts as lts
-use Rattle.listing.proofs.sizes.in_range.Reads as in-range-reads
-use Rattle.listing.proofs.sizes.wide.Reads as wide-reads
 
 -- src/sizes.rt:25:9
 returns : tie.Need-returns

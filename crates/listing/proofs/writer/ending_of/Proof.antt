@@ -2,8 +2,6 @@ use Rattle.listing.specs.Listing.{ending}
 use borrow.Author.Tests.{eq-eqb, ne-eqb}
 use Rattle.listing.proofs.writer.ending_of.Statement.{statement}
 use Rattle.listing.proofs.writer.ending_of.Tie as tie
-use Rattle.listing.proofs.writer.ending_of.Reads as reads
-use Rattle.listing.proofs.writer.ending_of.Lts as lts
 
 -- src/writer.rt:16:9
 returns : tie.Need-returns

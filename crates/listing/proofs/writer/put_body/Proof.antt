@@ -4,9 +4,6 @@ use native.Mathlib.Omega.{arith}
 use borrow.Author.Needs.{needs}
 use Rattle.listing.proofs.writer.put_body.Statement.{statement}
 use Rattle.listing.proofs.writer.put_body.Tie as tie
-use Rattle.listing.proofs.writer.put_body.Reads as reads
-use Rattle.listing.proofs.writer.put_body.Lts as lts
-use Rattle.listing.proofs.writer.put_records.Reads as put-records-reads
 
 -- src/writer.rt:85:21
 mul-start : tie.Need-mul-start

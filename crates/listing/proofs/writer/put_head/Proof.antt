@@ -4,10 +4,6 @@ use native.Mathlib.Omega.{arith}
 use borrow.Author.Needs.{needs}
 use Rattle.listing.proofs.writer.put_head.Statement.{statement}
 use Rattle.listing.proofs.writer.put_head.Tie as tie
-use Rattle.listing.proofs.writer.put_head.Reads as reads
-use Rattle.listing.proofs.writer.put_head.Lts as lts
-use Rattle.listing.proofs.writer.put_line.Reads as put-line-reads
-use Rattle.listing.proofs.writer.put_literals.Reads as put-literals-reads
 
 -- src/writer.rt:76:32
 slice-aggregate-put-line : tie.Need-slice-aggregate-put-line

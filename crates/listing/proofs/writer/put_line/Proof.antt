@@ -4,10 +4,6 @@ use native.Mathlib.Omega.{arith}
 use borrow.Author.Needs.{needs}
 use Rattle.listing.proofs.writer.put_line.Statement.{statement}
 use Rattle.listing.proofs.writer.put_line.Tie as tie
-use Rattle.listing.proofs.writer.put_line.Reads as reads
-use Rattle.listing.proofs.writer.put_line.Lts as lts
-use Rattle.listing.proofs.writer.put_numbers.Reads as put-numbers-reads
-use Rattle.text.proofs.put_bytes.Reads as put-bytes-reads
 
 -- src/writer.rt:37:9
 put-bytes-requires : tie.Need-put-bytes-requires

@@ -5,11 +5,6 @@ use native.Mathlib.Omega.{arith}
 use borrow.Author.Needs.{needs}
 use Rattle.listing.proofs.writer.put_listing.Statement.{statement}
 use Rattle.listing.proofs.writer.put_listing.Tie as tie
-use Rattle.listing.proofs.writer.put_listing.Reads as reads
-use Rattle.listing.proofs.writer.put_listing.Lts as lts
-use Rattle.listing.proofs.sizes.wide.Reads as wide-reads
-use Rattle.listing.proofs.writer.put_body.Reads as put-body-reads
-use Rattle.listing.proofs.writer.put_head.Reads as put-head-reads
 
 -- src/writer.rt:95:22
 shared-slice-read-wide : tie.Need-shared-slice-read-wide

@@ -4,11 +4,6 @@ use native.Mathlib.Omega.{arith}
 use borrow.Author.Needs.{needs}
 use Rattle.listing.proofs.writer.put_literals.Statement.{statement}
 use Rattle.listing.proofs.writer.put_literals.Tie as tie
-use Rattle.listing.proofs.writer.put_literals.Reads as reads
-use Rattle.listing.proofs.writer.put_literals.Lts as lts
-use Rattle.text.proofs.put.Reads as put-reads
-use Rattle.text.proofs.put_bytes.Reads as put-bytes-reads
-use Rattle.text.proofs.put_hex.Reads as put-hex-reads
 
 -- src/writer.rt:67:39
 slice-aggregate-put-bytes : tie.Need-slice-aggregate-put-bytes

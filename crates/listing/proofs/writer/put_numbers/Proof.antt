@@ -9,11 +9,6 @@ use mathlib.Core.List.{[], _∷_}
 use mathlib.Core.Path.{refl, ap}
 use Rattle.listing.proofs.writer.put_numbers.Statement.{statement}
 use Rattle.listing.proofs.writer.put_numbers.Tie as tie
-use Rattle.listing.proofs.writer.put_numbers.Reads as reads
-use Rattle.listing.proofs.writer.put_numbers.Lts as lts
-use Rattle.listing.proofs.writer.ending_of.Reads as ending-of-reads
-use Rattle.text.proofs.put.Reads as put-reads
-use Rattle.text.proofs.put_decimal.Reads as put-decimal-reads
 
 abbrev Inv-loop : tie.InvT-loop
 Inv-loop text₀ at words next₀ i₀ text next i = (i ≤ length words) × Left text next (numbers (drop i words)) text₀ at (numbers words)

@@ -4,13 +4,10 @@ use Rattle.text.proofs.Writing.{Left, left-all, left-step, left-done, left-leng
 use lib.ListN.{length, drop}
 use borrow.Author.Needs.{needs}
 use native.Mathlib.Omega.{arith}
-use Prim.Native.Nat.{ℕ, _+_, _-_, _*_, _≤_}
+use Prim.Native.Nat.{_+_, _-_, _*_, _≤_}
 use mathlib.Core.Path.{refl}
 use Rattle.listing.proofs.writer.put_records.Statement.{statement}
 use Rattle.listing.proofs.writer.put_records.Tie as tie
-use Rattle.listing.proofs.writer.put_records.Reads as reads
-use Rattle.listing.proofs.writer.put_records.Lts as lts
-use Rattle.listing.proofs.writer.put_line.Reads as put-line-reads
 
 abbrev Inv-loop : tie.InvT-loop
 Inv-loop text₀ at key width count words next₀ from₀ left₀ text next from left = (from + left * width ≤ length words) × Left text next (recordLines key width left (drop from words)) text₀ at (recordLines key width count words)

@@ -1,6 +1,6 @@
 use Rattle.machine.specs.Drive.{doneAnswer, concludedIn, concluded}
 use Rattle.grammar.specs.Answer.{endingNumber}
-use Rattle.machine.specs.declared.Given.{Given}
+use Rattle.calls.specs.declared.Given.{Given}
 use Rattle.machine.specs.declared.Stage.{Stage}
 use denote.Ref.{now}
 use mathlib.Core.Path.{sym, ap, _∙_}
@@ -17,8 +17,8 @@ ended-requires c κs = search needs
 enum-told : tie.Need-enum-told
 enum-told c = search needs
 
-returned-requires : tie.Need-returned-requires
-returned-requires c κs = search needs
+returned-by-requires : tie.Need-returned-by-requires
+returned-by-requires c κs = search needs
 
 done-requires : tie.Need-done-requires
 done-requires c κs = search needs
@@ -65,7 +65,7 @@ returns c = c .ended .ensures ∙ ap (λ (t : Stage). concludedIn (now (c .befor
 
 returns-2 : tie.Need-returns-2
 unfolding concludedIn concluded
-returns-2 c = c .done .ensures ∙ (ap (λ (g : Given). doneAnswer g (c .before .before .before .before .before .before .before .before .args .run)) (c .before .returned .ensures) ∙ ap (λ (t : Stage). concludedIn (now (c .before .before .before .before .before .before .before .before .args .words)) (now (c .before .before .before .before .before .before .before .before .args .literals)) (now (c .before .before .before .before .before .before .before .before .args .message)) t (c .before .before .before .before .before .before .before .before .args .run) (now (c .before .before .before .before .before .before .before .before .args .work))) (sym (c .before .before .enum-told .given .1)))
+returns-2 c = c .done .ensures ∙ (ap (λ (g : Given). doneAnswer g (c .before .before .before .before .before .before .before .before .args .run)) (c .before .returned-by .ensures) ∙ ap (λ (t : Stage). concludedIn (now (c .before .before .before .before .before .before .before .before .args .words)) (now (c .before .before .before .before .before .before .before .before .args .literals)) (now (c .before .before .before .before .before .before .before .before .args .message)) t (c .before .before .before .before .before .before .before .before .args .run) (now (c .before .before .before .before .before .before .before .before .args .work))) (sym (c .before .before .enum-told .given .1)))
 
 returns-3 : tie.Need-returns-3
 unfolding concludedIn concluded
@@ -94,7 +94,7 @@ conclude-spec =
     enum-known-stage
     ended-requires
     enum-told
-    returned-requires
+    returned-by-requires
     done-requires
     enum-told-2
     without-values-requires

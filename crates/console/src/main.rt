@@ -1,0 +1,30 @@
+// The console (document 01, "Listing and console"): standard input in, its lines out. What it prints for what it reads is `consoleText` of
+// console_text/specs, by the promise of `console_text::respond`; that these bytes are what is read and written, no promise can say.
+use console_text::Response;
+use libc::STDIN_FILENO;
+use libc::STDOUT_FILENO;
+
+fn main() {
+    // one byte more than an input may have
+    let mut input = [0u8; 65537];
+    let mut message = [0u8; 32768];
+    let mut words = [0u16; 11203];
+    let mut literals = [0u8; 4096];
+    let mut work = [0u32; 9760];
+    let mut output = [0u8; 262253];
+    let n = io::read_full(STDIN_FILENO, &mut input);
+    match console_text::respond(
+        &input[..n],
+        &mut message,
+        &mut words,
+        &mut literals,
+        &mut work,
+        &mut output,
+    ) {
+        Response::Written(count) => {
+            io::write_all(STDOUT_FILENO, &output[..count]);
+        }
+        // never, since the slices are as long as they have to be
+        Response::Short => {}
+    }
+}

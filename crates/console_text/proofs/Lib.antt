@@ -1,0 +1,5 @@
+pub mod Putting
+pub mod Reading
+pub mod Tables
+pub mod Lengths
+pub mod Responding

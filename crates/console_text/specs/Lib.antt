@@ -1,0 +1,4 @@
+pub mod Asked
+pub mod Printed
+pub mod Console
+pub mod Lent

@@ -1,0 +1,223 @@
+//! The proved reader, through its static library: safe wrappers over the exported functions (docs/FIRMWARE.md).
+
+use crate::reference;
+use crate::subject::{Home, ReadAnswer, Record, Span, Subject, Value, WriteAnswer};
+
+extern "C" {
+    fn styrmflo_check(words: *const u16, n: usize, literals: *const u8, l: usize) -> u32;
+    fn styrmflo_type_check(words: *const u16, n: usize, literals: *const u8, l: usize) -> u32;
+    fn styrmflo_bench(
+        words: *const u16,
+        n: usize,
+        literals: *const u8,
+        l: usize,
+        message: *const u8,
+        m: usize,
+        budget: u32,
+        work: *mut u32,
+        w: usize,
+        twelve: *mut u32,
+        t: usize,
+    );
+    fn styrmflo_display(
+        words: *const u16,
+        n: usize,
+        literals: *const u8,
+        l: usize,
+        message: *const u8,
+        m: usize,
+        budget: u32,
+        work: *mut u32,
+        w: usize,
+        twelve: *mut u32,
+        t: usize,
+    );
+    fn styrmflo_read(
+        text: *const u8,
+        x: usize,
+        words: *mut u16,
+        n: usize,
+        literals: *mut u8,
+        l: usize,
+        answer: *mut u64,
+        a: usize,
+    );
+    fn styrmflo_write(
+        words: *const u16,
+        n: usize,
+        literals: *const u8,
+        l: usize,
+        text: *mut u8,
+        x: usize,
+        answer: *mut u64,
+        a: usize,
+    );
+    fn styrmflo_text(message: usize, literals: usize, tag: u32, payload: u32) -> u64;
+}
+
+/// W, as docs/WORK.md states it.
+pub const WORK_WORDS: usize = 9_760;
+
+pub struct Library;
+
+fn verdict(word: u32) -> (u32, u32) {
+    (word / 65_536, word % 65_536)
+}
+
+fn value(tag: u32, payload: u32) -> Value {
+    let span = |home| {
+        Value::Text(Span {
+            home,
+            start: payload / 65_536,
+            length: payload % 65_536,
+        })
+    };
+    match tag {
+        0 => Value::Absent,
+        1 => Value::Bool(payload == 1),
+        2 => Value::Integer(payload as i32),
+        3 => span(Home::Message),
+        4 => span(Home::Literals),
+        _ => panic!("tag {tag}"),
+    }
+}
+
+fn words_of(value: Value) -> Option<(u32, u32)> {
+    Some(match value {
+        Value::Absent => (0, 0),
+        Value::Bool(b) => (1, b as u32),
+        Value::Integer(z) => (2, z as u32),
+        Value::Text(span) => {
+            if span.start > 65_535 || span.length > 65_535 {
+                return None;
+            }
+            let tag = if span.home == Home::Message { 3 } else { 4 };
+            (tag, span.start * 65_536 + span.length)
+        }
+    })
+}
+
+impl Subject for Library {
+    fn work_words(&self) -> usize {
+        WORK_WORDS
+    }
+
+    fn check(&self, words: &[u16], literals: &[u8]) -> (u32, u32) {
+        verdict(unsafe {
+            styrmflo_check(words.as_ptr(), words.len(), literals.as_ptr(), literals.len())
+        })
+    }
+
+    fn type_check(&self, words: &[u16], literals: &[u8]) -> (u32, u32) {
+        verdict(unsafe {
+            styrmflo_type_check(words.as_ptr(), words.len(), literals.as_ptr(), literals.len())
+        })
+    }
+
+    fn run(
+        &self,
+        display: bool,
+        words: &[u16],
+        literals: &[u8],
+        message: &[u8],
+        budget: u32,
+        work: &mut [u32],
+    ) -> Record {
+        let run = if display {
+            styrmflo_display
+        } else {
+            styrmflo_bench
+        };
+        let mut twelve = [0u32; 12];
+        unsafe {
+            run(
+                words.as_ptr(),
+                words.len(),
+                literals.as_ptr(),
+                literals.len(),
+                message.as_ptr(),
+                message.len(),
+                budget,
+                work.as_mut_ptr(),
+                work.len(),
+                twelve.as_mut_ptr(),
+                twelve.len(),
+            );
+        }
+        let at = |i: usize| value(twelve[4 + 2 * i], twelve[5 + 2 * i]);
+        Record {
+            number: twelve[0],
+            place: twelve[1],
+            consumed: twelve[2],
+            visits: twelve[3],
+            values: [at(0), at(1), at(2), at(3)],
+        }
+    }
+
+    fn read(&self, text: &[u8], words: &mut [u16], literals: &mut [u8]) -> ReadAnswer {
+        let mut answer = [0u64; 4];
+        unsafe {
+            styrmflo_read(
+                text.as_ptr(),
+                text.len(),
+                words.as_mut_ptr(),
+                words.len(),
+                literals.as_mut_ptr(),
+                literals.len(),
+                answer.as_mut_ptr(),
+                answer.len(),
+            );
+        }
+        ReadAnswer {
+            number: answer[0] as u32,
+            line: answer[1] as u32,
+            words: answer[2] as usize,
+            literals: answer[3] as usize,
+        }
+    }
+
+    fn write(&self, words: &[u16], literals: &[u8], text: &mut [u8]) -> WriteAnswer {
+        let mut answer = [0u64; 4];
+        unsafe {
+            styrmflo_write(
+                words.as_ptr(),
+                words.len(),
+                literals.as_ptr(),
+                literals.len(),
+                text.as_mut_ptr(),
+                text.len(),
+                answer.as_mut_ptr(),
+                answer.len(),
+            );
+        }
+        WriteAnswer {
+            number: answer[0] as u32,
+            length: answer[2] as usize,
+        }
+    }
+
+    fn text_bytes(&self, message: &[u8], literals: &[u8], value: Value) -> Span {
+        // A Text that no answer can hold, over 16 bits, has no words to ask with.
+        let Some((tag, payload)) = words_of(value) else {
+            return reference::text::text_bytes(message, literals, value);
+        };
+        let word = unsafe { styrmflo_text(message.len(), literals.len(), tag, payload) };
+        Span {
+            home: if word >> 32 == 1 {
+                Home::Literals
+            } else {
+                Home::Message
+            },
+            start: (word >> 16) as u32 & 65_535,
+            length: word as u32 & 65_535,
+        }
+    }
+
+    /// The library has no console; the console program is compared by itself.
+    fn console(&self, input: &[u8]) -> Vec<u8> {
+        let reference = crate::subject::Reference {
+            work_words: WORK_WORDS,
+        };
+        reference.console(input)
+    }
+}
