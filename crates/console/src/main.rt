@@ -21,10 +21,12 @@ fn main() {
         &mut work,
         &mut output,
     ) {
+        // always so, since the slices are as long as they have to be
         Response::Written(count) => {
-            io::write_all(STDOUT_FILENO, &output[..count]);
+            if count <= 262253 {
+                io::write_all(STDOUT_FILENO, &output[..count]);
+            }
         }
-        // never, since the slices are as long as they have to be
         Response::Short => {}
     }
 }
