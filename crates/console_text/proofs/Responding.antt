@@ -144,56 +144,56 @@ module _ (input message words literals work output : List ℕ) where
     respond-input h w = finish tooLong (rw (lt-ltb longestInput (length input) h)) w refl
 
     module _ (h : length input ≤ longestInput) {request : Request} {message′ words′ literals′ : List ℕ}
-      (e : readied request message′ words′ literals′ ≡ ready (said input) message words literals)
+        (e : readied request message′ words′ literals′ ≡ ready (said input) message words literals)
       where
-      consoled : (s : Said Asked) → said input ≡ s → consoleAnswer input ≡ onSaid wrongAt (λ a. ran a (answerTo a)) s
-      unfolding consoleAnswer
-      consoled s f = rw (le-ltb longestInput (length input) h, f)
+        consoled : (s : Said Asked) → said input ≡ s → consoleAnswer input ≡ onSaid wrongAt (λ a. ran a (answerTo a)) s
+        unfolding consoleAnswer
+        consoled s f = rw (le-ltb longestInput (length input) h, f)
 
-      pub respond-line : {r : ℕ} {output′ : List ℕ} (n : ℕ) → request ≡ R.Line n → Wrote output 0 (answerLines [] [] (lineRecord n)) r output′
-          → responded (Written r) (lent message′ words′ literals′ work output′) ≡ respond input (lent message words literals work output)
-      unfolding ready printed afterwards
-      respond-line {r} {output′} n f w = go (said input) refl e
-        where
-          go : (s : Said Asked) → said input ≡ s → readied request message′ words′ literals′ ≡ ready s message words literals
-              → responded (Written r) (lent message′ words′ literals′ work output′) ≡ respond input (lent message words literals work output)
-          go (says a) g k =
-              let b : R.Line n ≡ R.Run (a .mode) (a .budget) (length (a .message)) (length (a .table .words)) (length (a .table .literals)) =
-              sym f ∙ ap (λ (z : Readied). z .request) k in
-              let z : _≡_ {A = ℕ} 0 1 = cc in
-              absurd (omega arith)
-          go (wrongLine x) g k =
-              let b : R.Line n ≡ R.Line x = sym f ∙ ap (λ (z : Readied). z .request) k in
-              let d : n ≡ x = cc in
-              finish (wrongAt x) (consoled (wrongLine x) g) (wrote-as (ap (λ (z : ℕ). answerLines [] [] (lineRecord z)) d) w)
-              (ap (λ (z : Readied). lent (z .message) (z .words) (z .literals) work (over (consoleText input) output)) k)
+        pub respond-line : {r : ℕ} {output′ : List ℕ} (n : ℕ) → request ≡ R.Line n → Wrote output 0 (answerLines [] [] (lineRecord n)) r output′
+            → responded (Written r) (lent message′ words′ literals′ work output′) ≡ respond input (lent message words literals work output)
+        unfolding ready printed afterwards
+        respond-line {r} {output′} n f w = go (said input) refl e
+          where
+            go : (s : Said Asked) → said input ≡ s → readied request message′ words′ literals′ ≡ ready s message words literals
+                → responded (Written r) (lent message′ words′ literals′ work output′) ≡ respond input (lent message words literals work output)
+            go (says a) g k =
+                let b : R.Line n ≡ R.Run (a .mode) (a .budget) (length (a .message)) (length (a .table .words)) (length (a .table .literals)) =
+                sym f ∙ ap (λ (z : Readied). z .request) k in
+                let z : _≡_ {A = ℕ} 0 1 = cc in
+                absurd (omega arith)
+            go (wrongLine x) g k =
+                let b : R.Line n ≡ R.Line x = sym f ∙ ap (λ (z : Readied). z .request) k in
+                let d : n ≡ x = cc in
+                finish (wrongAt x) (consoled (wrongLine x) g) (wrote-as (ap (λ (z : ℕ). answerLines [] [] (lineRecord z)) d) w)
+                (ap (λ (z : Readied). lent (z .message) (z .words) (z .literals) work (over (consoleText input) output)) k)
 
-      pub respond-run : {r : ℕ} {work′ output′ : List ℕ} (mode : Mode) (budget m n l : ℕ) → request ≡ R.Run mode budget m n l
-          → Wrote output 0 (answerLines (take m message′) (take l literals′) (answer mode (take n words′) (take l literals′) (take m message′) budget (length work))) r output′
-          → work′ ≡ workAfter mode (take n words′) (take l literals′) (take m message′) work
-          → responded (Written r) (lent message′ words′ literals′ work′ output′) ≡ respond input (lent message words literals work output)
-      unfolding ready printed afterwards answerTo
-      respond-run {r} {work′} {output′} mode budget m n l f w u = go (said input) refl e
-        where
-          go : (s : Said Asked) → said input ≡ s → readied request message′ words′ literals′ ≡ ready s message words literals
-              → responded (Written r) (lent message′ words′ literals′ work′ output′) ≡ respond input (lent message words literals work output)
-          go (says a) g k =
-              let b : R.Run mode budget m n l ≡ R.Run (a .mode) (a .budget) (length (a .message)) (length (a .table .words)) (length (a .table .literals)) =
-              sym f ∙ ap (λ (z : Readied). z .request) k in
-              let c : mode ≡ a .mode = cc in
-              let d : budget ≡ a .budget = cc in
-              let i : m ≡ length (a .message) = cc in
-              let j : n ≡ length (a .table .words) = cc in
-              let p : l ≡ length (a .table .literals) = cc in
-              let message-is : take m message′ ≡ a .message = ap (λ (z : Readied). take m (z .message)) k ∙ take-front (a .message) message m i in
-              let words-are : take n words′ ≡ a .table .words = ap (λ (z : Readied). take n (z .words)) k ∙ take-front (a .table .words) words n j in
-              let literals-are : take l literals′ ≡ a .table .literals = ap (λ (z : Readied). take l (z .literals)) k ∙ take-front (a .table .literals) literals l p in
-              let v = rw (message-is, words-are, literals-are, c, d) at w in
-              let x = rw (message-is, words-are, literals-are, c) at u in
-              finish (ran a (answerTo a)) (consoled (says a) g) (rw (answer-room (a .mode) (a .table .words) (a .table .literals) (a .message) (a .budget) (length work) (room .for-work)) at v)
-              (ap (λ (z : Readied). lent (z .message) (z .words) (z .literals) work′ (over (consoleText input) output)) k
-              ∙ ap (λ (z : List ℕ). lent (over (a .message) message) (over (a .table .words) words) (over (a .table .literals) literals) z (over (consoleText input) output)) x)
-          go (wrongLine x) g k =
-              let b : R.Run mode budget m n l ≡ R.Line x = sym f ∙ ap (λ (z : Readied). z .request) k in
-              let z : _≡_ {A = ℕ} 0 1 = cc in
-              absurd (omega arith)
+        pub respond-run : {r : ℕ} {work′ output′ : List ℕ} (mode : Mode) (budget m n l : ℕ) → request ≡ R.Run mode budget m n l
+            → Wrote output 0 (answerLines (take m message′) (take l literals′) (answer mode (take n words′) (take l literals′) (take m message′) budget (length work))) r output′
+            → work′ ≡ workAfter mode (take n words′) (take l literals′) (take m message′) work
+            → responded (Written r) (lent message′ words′ literals′ work′ output′) ≡ respond input (lent message words literals work output)
+        unfolding ready printed afterwards answerTo
+        respond-run {r} {work′} {output′} mode budget m n l f w u = go (said input) refl e
+          where
+            go : (s : Said Asked) → said input ≡ s → readied request message′ words′ literals′ ≡ ready s message words literals
+                → responded (Written r) (lent message′ words′ literals′ work′ output′) ≡ respond input (lent message words literals work output)
+            go (says a) g k =
+                let b : R.Run mode budget m n l ≡ R.Run (a .mode) (a .budget) (length (a .message)) (length (a .table .words)) (length (a .table .literals)) =
+                sym f ∙ ap (λ (z : Readied). z .request) k in
+                let c : mode ≡ a .mode = cc in
+                let d : budget ≡ a .budget = cc in
+                let i : m ≡ length (a .message) = cc in
+                let j : n ≡ length (a .table .words) = cc in
+                let p : l ≡ length (a .table .literals) = cc in
+                let message-is : take m message′ ≡ a .message = ap (λ (z : Readied). take m (z .message)) k ∙ take-front (a .message) message m i in
+                let words-are : take n words′ ≡ a .table .words = ap (λ (z : Readied). take n (z .words)) k ∙ take-front (a .table .words) words n j in
+                let literals-are : take l literals′ ≡ a .table .literals = ap (λ (z : Readied). take l (z .literals)) k ∙ take-front (a .table .literals) literals l p in
+                let v = rw (message-is, words-are, literals-are, c, d) at w in
+                let x = rw (message-is, words-are, literals-are, c) at u in
+                finish (ran a (answerTo a)) (consoled (says a) g) (rw (answer-room (a .mode) (a .table .words) (a .table .literals) (a .message) (a .budget) (length work) (room .for-work)) at v)
+                (ap (λ (z : Readied). lent (z .message) (z .words) (z .literals) work′ (over (consoleText input) output)) k
+                ∙ ap (λ (z : List ℕ). lent (over (a .message) message) (over (a .table .words) words) (over (a .table .literals) literals) z (over (consoleText input) output)) x)
+            go (wrongLine x) g k =
+                let b : R.Run mode budget m n l ≡ R.Line x = sym f ∙ ap (λ (z : Readied). z .request) k in
+                let z : _≡_ {A = ℕ} 0 1 = cc in
+                absurd (omega arith)

@@ -96,59 +96,59 @@ readyFor mode budget bytes message words literals s =
     ready (onSaid wrongLine (λ table. says (record { mode = mode; budget = budget; message = bytes; table = table })) s) message words literals
 
 module _
-  (input : List ℕ) (at : ℕ) (words literals : List ℕ) (h : tableWords ≤ length words)
-  (g : tableLiterals ≤ length literals) {r : Reading} {words′ literals′ : List ℕ}
-  (e : filled r words′ literals′ ≡ readFrom input at 4 words literals)
+    (input : List ℕ) (at : ℕ) (words literals : List ℕ) (h : tableWords ≤ length words)
+    (g : tableLiterals ≤ length literals) {r : Reading} {words′ literals′ : List ℕ}
+    (e : filled r words′ literals′ ≡ readFrom input at 4 words literals)
   where
-  said-so : filled r words′ literals′ ≡ readSaid words literals (tableAt input at)
-  said-so = e ∙ read-says input at words literals h g
+    said-so : filled r words′ literals′ ≡ readSaid words literals (tableAt input at)
+    said-so = e ∙ read-says input at words literals h g
 
-  -- there is room for every table
-  pub request-room : {A : Type 0} → r ≡ Room → A
-  request-room f = go (tableAt input at) said-so
-    where
-      go : {A : Type 0} (s : Said Table) → filled r words′ literals′ ≡ readSaid words literals s → A
-      go (says t) k =
-          let a : Room ≡ Done (length (t .words)) (length (t .literals)) = sym f ∙ ap (λ (z : Filled). z .answer) k in
-          let z : _≡_ {A = ℕ} 0 1 = cc in
-          absurd (omega arith)
-      go (wrongLine x) k =
-          let a : Room ≡ Line x = sym f ∙ ap (λ (z : Filled). z .answer) k in
-          let z : _≡_ {A = ℕ} 0 1 = cc in
-          absurd (omega arith)
-
-  module _ (mode : Mode) (budget : ℕ) (bytes message : List ℕ) where
-    pub request-run : (m n : ℕ) → r ≡ Done m n → {message′ : List ℕ} → message′ ≡ over bytes message
-        → (count : ℕ) → count ≡ length bytes
-        → readied (R.Run mode budget count m n) message′ words′ literals′ ≡ ready (fromFourth input mode budget bytes at) message words literals
-    unfolding ready
-    request-run m n f {message′} i count j = go (tableAt input at) said-so
+    -- there is room for every table
+    pub request-room : {A : Type 0} → r ≡ Room → A
+    request-room f = go (tableAt input at) said-so
       where
-        go : (s : Said Table) → filled r words′ literals′ ≡ readSaid words literals s → readied (R.Run mode budget count m n) message′ words′ literals′ ≡ readyFor mode budget bytes message words literals s
+        go : {A : Type 0} (s : Said Table) → filled r words′ literals′ ≡ readSaid words literals s → A
         go (says t) k =
-            let a : Done m n ≡ Done (length (t .words)) (length (t .literals)) = sym f ∙ ap (λ (z : Filled). z .answer) k in
-            let b : m ≡ length (t .words) = cc in
-            let c : n ≡ length (t .literals) = cc in
-            let d : words′ ≡ over (t .words) words = ap (λ (z : Filled). z .words) k in
-            let l : literals′ ≡ over (t .literals) literals = ap (λ (z : Filled). z .literals) k in
-            rw (b, c, d, l, i, j)
-        go (wrongLine x) k =
-            let a : Done m n ≡ Line x = sym f ∙ ap (λ (z : Filled). z .answer) k in
-            let z : _≡_ {A = ℕ} 0 1 = cc in
-            absurd (omega arith)
-
-    pub request-line : (n : ℕ) → r ≡ Line n → readied (R.Line n) message words′ literals′ ≡ ready (fromFourth input mode budget bytes at) message words literals
-    unfolding ready
-    request-line n f = go (tableAt input at) said-so
-      where
-        go : (s : Said Table) → filled r words′ literals′ ≡ readSaid words literals s → readied (R.Line n) message words′ literals′ ≡ readyFor mode budget bytes message words literals s
-        go (says t) k =
-            let a : Line n ≡ Done (length (t .words)) (length (t .literals)) = sym f ∙ ap (λ (z : Filled). z .answer) k in
+            let a : Room ≡ Done (length (t .words)) (length (t .literals)) = sym f ∙ ap (λ (z : Filled). z .answer) k in
             let z : _≡_ {A = ℕ} 0 1 = cc in
             absurd (omega arith)
         go (wrongLine x) k =
-            let a : Line n ≡ Line x = sym f ∙ ap (λ (z : Filled). z .answer) k in
-            let b : n ≡ x = cc in
-            let d : words′ ≡ words = ap (λ (z : Filled). z .words) k in
-            let l : literals′ ≡ literals = ap (λ (z : Filled). z .literals) k in
-            rw (b, d, l)
+            let a : Room ≡ Line x = sym f ∙ ap (λ (z : Filled). z .answer) k in
+            let z : _≡_ {A = ℕ} 0 1 = cc in
+            absurd (omega arith)
+
+    module _ (mode : Mode) (budget : ℕ) (bytes message : List ℕ) where
+      pub request-run : (m n : ℕ) → r ≡ Done m n → {message′ : List ℕ} → message′ ≡ over bytes message
+          → (count : ℕ) → count ≡ length bytes
+          → readied (R.Run mode budget count m n) message′ words′ literals′ ≡ ready (fromFourth input mode budget bytes at) message words literals
+      unfolding ready
+      request-run m n f {message′} i count j = go (tableAt input at) said-so
+        where
+          go : (s : Said Table) → filled r words′ literals′ ≡ readSaid words literals s → readied (R.Run mode budget count m n) message′ words′ literals′ ≡ readyFor mode budget bytes message words literals s
+          go (says t) k =
+              let a : Done m n ≡ Done (length (t .words)) (length (t .literals)) = sym f ∙ ap (λ (z : Filled). z .answer) k in
+              let b : m ≡ length (t .words) = cc in
+              let c : n ≡ length (t .literals) = cc in
+              let d : words′ ≡ over (t .words) words = ap (λ (z : Filled). z .words) k in
+              let l : literals′ ≡ over (t .literals) literals = ap (λ (z : Filled). z .literals) k in
+              rw (b, c, d, l, i, j)
+          go (wrongLine x) k =
+              let a : Done m n ≡ Line x = sym f ∙ ap (λ (z : Filled). z .answer) k in
+              let z : _≡_ {A = ℕ} 0 1 = cc in
+              absurd (omega arith)
+
+      pub request-line : (n : ℕ) → r ≡ Line n → readied (R.Line n) message words′ literals′ ≡ ready (fromFourth input mode budget bytes at) message words literals
+      unfolding ready
+      request-line n f = go (tableAt input at) said-so
+        where
+          go : (s : Said Table) → filled r words′ literals′ ≡ readSaid words literals s → readied (R.Line n) message words′ literals′ ≡ readyFor mode budget bytes message words literals s
+          go (says t) k =
+              let a : Line n ≡ Done (length (t .words)) (length (t .literals)) = sym f ∙ ap (λ (z : Filled). z .answer) k in
+              let z : _≡_ {A = ℕ} 0 1 = cc in
+              absurd (omega arith)
+          go (wrongLine x) k =
+              let a : Line n ≡ Line x = sym f ∙ ap (λ (z : Filled). z .answer) k in
+              let b : n ≡ x = cc in
+              let d : words′ ≡ words = ap (λ (z : Filled). z .words) k in
+              let l : literals′ ≡ literals = ap (λ (z : Filled). z .literals) k in
+              rw (b, d, l)

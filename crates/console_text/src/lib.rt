@@ -9,8 +9,10 @@ ghost use Rattle.console_text.specs.declared.Response.the-variants.{Writ
 ghost use Rattle.console_text.specs.Printed.{answerLines};
 ghost use Rattle.console_text.specs.Console.{longestInput, lineRecord};
 ghost use Rattle.console_text.specs.Lent.{Roomy, lent, enough, responded, respond};
+
 mod lines;
 mod request;
+
 use crate::request::Request;
 use grammar::Answer;
 use grammar::Mode;
@@ -145,7 +147,5 @@ pub fn respond(
     if 65536 < input.len() {
         return Response::Written(text::put_bytes(output, 0, b"answer=23\n"));
     }
-    Response::Written(answer_lines(
-        input, message, words, literals, work, output,
-    ))
+    Response::Written(answer_lines(input, message, words, literals, work, output))
 }

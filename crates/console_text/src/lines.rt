@@ -107,7 +107,7 @@ fn put_values<'a>(
 }
 
 // "every other answer prints these eight lines"
-pub fn put_answer<'a>(
+pub(crate) fn put_answer<'a>(
     output: &mut [u8],
     at: usize,
     message: &'a [u8],

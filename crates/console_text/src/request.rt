@@ -86,7 +86,7 @@ fn read_listing(
     }
 }
 
-pub fn read_request(
+pub(crate) fn read_request(
     input: &[u8],
     message: &mut [u8],
     words: &mut [u16],

@@ -5,8 +5,12 @@ ghost use Prim.Native.Nat.{_+_, _*_};
 ghost use lib.Dec.{leb};
 ghost use lib.ListN.{set};
 ghost use Rattle.exports.specs.Boundary.{partWord, verdictWord, withFour, withReading, withRecord, withWriting};
-use grammar::{Answer, Span, Value, Verdict};
-use listing::{Reading, Writing};
+use grammar::Answer;
+use grammar::Span;
+use grammar::Value;
+use grammar::Verdict;
+use listing::Reading;
+use listing::Writing;
 use values::slots::write_slot;
 
 pub(crate) fn verdict_word(verdict: Verdict) -> u32
@@ -44,7 +48,13 @@ fn put_head(words: &mut [u32], a: u32, b: u32, c: u32, d: u32)
 pub(crate) fn put_record(twelve: &mut [u32], answer: Answer)
     ensures { λ _. ⌜ now (twelve .exit) ≡ withRecord (now (twelve .entry)) answer ⌝ }
 {
-    put_head(twelve, answer.number, answer.place, answer.consumed, answer.visits);
+    put_head(
+        twelve,
+        answer.number,
+        answer.place,
+        answer.consumed,
+        answer.visits,
+    );
     let first = answer.value0;
     write_slot(twelve, 2, first);
     let second = answer.value1;

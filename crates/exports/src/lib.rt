@@ -1,5 +1,6 @@
 // The reader for C and Rust: numbers and slices only; a slice is a pointer and then a length. docs/FIRMWARE.md has a page for firmware engineers.
 mod boundary;
+
 ghost use mathlib.Core.Path.{_≡_};
 ghost use lib.ListN.{length};
 ghost use Rattle.grammar.specs.declared.Mode.the-variants.{Bench, Display};
@@ -9,7 +10,11 @@ ghost use Rattle.values.specs.Slots.{valueOf};
 ghost use Rattle.listing.specs.Reading.{read};
 ghost use Rattle.listing.specs.Writing.{write};
 ghost use Rattle.exports.specs.Boundary.{partWord, verdictWord, withReading, withRecord, withWriting};
-use crate::boundary::{part_word, put_reading, put_record, put_writing, verdict_word};
+use crate::boundary::part_word;
+use crate::boundary::put_reading;
+use crate::boundary::put_record;
+use crate::boundary::put_writing;
+use crate::boundary::verdict_word;
 
 // The checks 1 to 4: 65536 times the answer's number, and its place.
 #[no_mangle]
@@ -38,9 +43,7 @@ pub extern "C" fn styrmflo_bench<'a>(
     twelve: &mut [u32],
 )
     ensures leaves { λ _. ⌜ now (work .exit) ≡ workAfter Bench (now (words .entry)) (now (literals .entry)) (now (message .entry)) (now (work .entry)) ⌝ }
-    ensures gives {
-      λ _. ⌜ now (twelve .exit) ≡ withRecord (now (twelve .entry)) (answer Bench (now (words .entry)) (now (literals .entry)) (now (message .entry)) budget (length (now (work .entry)))) ⌝
-    }
+    ensures gives { λ _. ⌜ now (twelve .exit) ≡ withRecord (now (twelve .entry)) (answer Bench (now (words .entry)) (now (literals .entry)) (now (message .entry)) budget (length (now (work .entry)))) ⌝ }
 {
     let answer = runs::bench(words, literals, message, budget, work);
     put_record(twelve, answer);
@@ -57,9 +60,7 @@ pub extern "C" fn styrmflo_display<'a>(
     twelve: &mut [u32],
 )
     ensures leaves { λ _. ⌜ now (work .exit) ≡ workAfter Display (now (words .entry)) (now (literals .entry)) (now (message .entry)) (now (work .entry)) ⌝ }
-    ensures gives {
-      λ _. ⌜ now (twelve .exit) ≡ withRecord (now (twelve .entry)) (answer Display (now (words .entry)) (now (literals .entry)) (now (message .entry)) budget (length (now (work .entry)))) ⌝
-    }
+    ensures gives { λ _. ⌜ now (twelve .exit) ≡ withRecord (now (twelve .entry)) (answer Display (now (words .entry)) (now (literals .entry)) (now (message .entry)) budget (length (now (work .entry)))) ⌝ }
 {
     let answer = runs::display(words, literals, message, budget, work);
     put_record(twelve, answer);
@@ -67,7 +68,12 @@ pub extern "C" fn styrmflo_display<'a>(
 
 // Reads a listing into words and literals; number, line, words and literals in the first four words of `answer`.
 #[no_mangle]
-pub extern "C" fn styrmflo_read(text: &[u8], words: &mut [u16], literals: &mut [u8], answer: &mut [u64])
+pub extern "C" fn styrmflo_read(
+    text: &[u8],
+    words: &mut [u16],
+    literals: &mut [u8],
+    answer: &mut [u64],
+)
     ensures words { λ _. ⌜ now (words .exit) ≡ read (now (text .entry)) (now (words .entry)) (now (literals .entry)) .words ⌝ }
     ensures literals { λ _. ⌜ now (literals .exit) ≡ read (now (text .entry)) (now (words .entry)) (now (literals .entry)) .literals ⌝ }
     ensures tells { λ _. ⌜ now (answer .exit) ≡ withReading (now (answer .entry)) (read (now (text .entry)) (now (words .entry)) (now (literals .entry)) .answer) ⌝ }
@@ -78,7 +84,12 @@ pub extern "C" fn styrmflo_read(text: &[u8], words: &mut [u16], literals: &mut [
 
 // Writes a table's listing into a text; number, 0, length and 0 in the first four words of `answer`.
 #[no_mangle]
-pub extern "C" fn styrmflo_write(words: &[u16], literals: &[u8], text: &mut [u8], answer: &mut [u64])
+pub extern "C" fn styrmflo_write(
+    words: &[u16],
+    literals: &[u8],
+    text: &mut [u8],
+    answer: &mut [u64],
+)
     ensures text { λ _. ⌜ now (text .exit) ≡ write (now (words .entry)) (now (literals .entry)) (now (text .entry)) .text ⌝ }
     ensures tells { λ _. ⌜ now (answer .exit) ≡ withWriting (now (answer .entry)) (write (now (words .entry)) (now (literals .entry)) (now (text .entry)) .answer) ⌝ }
 {

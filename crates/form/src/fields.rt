@@ -113,7 +113,7 @@ fn record_length(rules: u16, q: u16) -> u16
 }
 
 // The first bad word, in word order; the number of words where there is none.
-pub fn first_bad(words: &[u16]) -> usize
+pub(crate) fn first_bad(words: &[u16]) -> usize
     requires { ⌜ Sized (now words) ⌝ }
     ensures { λ result. ⌜ Scan.found (length (now (words .entry))) result ≡ smallestFailing (wordOk (now (words .entry))) 3 (length (now (words .entry)) - 3) ⌝ }
 {

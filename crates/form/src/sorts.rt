@@ -158,14 +158,14 @@ fn in_force(words: &[u16], start: usize, sort: u8) -> u8
 }
 
 // The sort in force at word j of rule r.
-pub fn rule_sort(words: &[u16], r: u16, j: u16) -> u8
+pub(crate) fn rule_sort(words: &[u16], r: u16, j: u16) -> u8
     ensures { λ result. ⌜ result ≡ Sorts.ruleSort (now (words .entry)) r j ⌝ }
 {
     in_force(words, rule_start(r), rule_record_sort(j))
 }
 
 // The sort in force at word j of node k.
-pub fn node_sort(words: &[u16], k: u16, j: u16) -> u8
+pub(crate) fn node_sort(words: &[u16], k: u16, j: u16) -> u8
     ensures { λ result. ⌜ result ≡ Sorts.nodeSort (now (words .entry)) k j ⌝ }
 {
     if j == 0 {

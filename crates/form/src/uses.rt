@@ -76,7 +76,7 @@ fn first_other(counts: &[u16; 1024], n: u16) -> u16
 }
 
 // The smallest node that is not used exactly once; the number of nodes where there is none.
-pub fn first_misused(words: &[u16]) -> u16
+pub(crate) fn first_misused(words: &[u16]) -> u16
     requires { ⌜ Sized (now words) ⌝ }
     ensures { λ result. ⌜ Scan.found (nodeCount (now (words .entry))) result ≡ smallestFailing (λ k. eqb (uses (now (words .entry)) k) 1) 0 (nodeCount (now (words .entry))) ⌝ }
 {

@@ -4,13 +4,13 @@ ghost use Prim.Native.Nat.{_+_, _≤_, _<_};
 ghost use lib.ListN.{length, getD, set};
 ghost use Rattle.frames.specs.Frames.{copied, cleared};
 
-pub fn get(words: &[u32], i: usize) -> u32
+pub(crate) fn get(words: &[u32], i: usize) -> u32
     ensures { λ r. ⌜ r ≡ getD (now (words .entry)) i 0 ⌝ }
 {
     if i < words.len() { words[i] } else { 0 }
 }
 
-pub fn put(words: &mut [u32], i: usize, word: u32)
+pub(crate) fn put(words: &mut [u32], i: usize, word: u32)
     ensures { λ _. ⌜ now (words .exit) ≡ set (now (words .entry)) i word ⌝ }
 {
     if i < words.len() {
@@ -40,7 +40,7 @@ fn copy_across(words: &mut [u32], from: usize, to: usize, n: usize)
     }
 }
 
-pub fn copy(words: &mut [u32], from: usize, to: usize, n: usize)
+pub(crate) fn copy(words: &mut [u32], from: usize, to: usize, n: usize)
     requires { ⌜ from + n < 4294967296 ⌝ }
     requires { ⌜ to + n < 4294967296 ⌝ }
     ensures { λ _. ⌜ now (words .exit) ≡ copied (now (words .entry)) from to n ⌝ }
@@ -66,7 +66,7 @@ fn clear_inside(words: &mut [u32], n: usize)
 }
 
 // The first n words become 0.
-pub fn clear(words: &mut [u32], n: usize)
+pub(crate) fn clear(words: &mut [u32], n: usize)
     ensures { λ _. ⌜ now (words .exit) ≡ cleared (now (words .entry)) n ⌝ }
 {
     let length = words.len();

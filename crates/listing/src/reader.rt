@@ -133,7 +133,7 @@ fn read_literals(text: &[u8], at: usize, literals: &mut [u8]) -> Bytes
 }
 
 // The first three lines: stores the literals.
-pub fn read_head(text: &[u8], at: usize, first: u32, literals: &mut [u8]) -> Head
+pub(crate) fn read_head(text: &[u8], at: usize, first: u32, literals: &mut [u8]) -> Head
     requires { ⌜ first ≤ 65535 ⌝ }
     ensures { λ r. ⌜ Took (headAt (now (text .entry)) first at) (now (literals .entry)) 0 r (now (literals .exit)) ⌝ }
 {
@@ -150,7 +150,7 @@ pub fn read_head(text: &[u8], at: usize, first: u32, literals: &mut [u8]) -> Hea
 }
 
 // The other lines, up to the text's end, the first of them with the number `number`: stores their words.
-pub fn read_body(
+pub(crate) fn read_body(
     text: &[u8],
     at: usize,
     rules: u32,
@@ -178,7 +178,7 @@ pub fn read_body(
 }
 
 // Stores the words of a table whose text is right.
-pub fn fill_words(
+pub(crate) fn fill_words(
     text: &[u8],
     at: usize,
     rules: u32,

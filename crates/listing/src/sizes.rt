@@ -3,13 +3,13 @@ ghost use mathlib.Core.Path.{_≡_};
 ghost use Rattle.grammar.specs.Form.{sizeOk};
 ghost use Rattle.listing.specs.Reading.{within};
 
-pub fn wide(word: u16) -> usize
+pub(crate) fn wide(word: u16) -> usize
     ensures { λ r. ⌜ r ≡ word ⌝ }
 {
     word as usize
 }
 
-pub fn in_range(low: usize, high: usize, n: usize) -> bool
+pub(crate) fn in_range(low: usize, high: usize, n: usize) -> bool
     ensures { λ r. ⌜ r ≡ within low high n ⌝ }
 {
     if n < low {
@@ -18,7 +18,7 @@ pub fn in_range(low: usize, high: usize, n: usize) -> bool
     n <= high
 }
 
-pub fn size_ok(words: &[u16], literal_bytes: usize) -> bool
+pub(crate) fn size_ok(words: &[u16], literal_bytes: usize) -> bool
     ensures { λ r. ⌜ r ≡ sizeOk (now (words .entry)) «literal_bytes» ⌝ }
 {
     if words.len() < 3 {

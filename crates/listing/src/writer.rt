@@ -9,7 +9,7 @@ ghost use Rattle.listing.specs.Listing.{ending, numbers, line, recordLin
 use crate::sizes::wide;
 
 // What ends a number that so many others follow in its line: "single spaces, each line ended by byte 10".
-pub fn ending_of(others: usize) -> u8
+pub(crate) fn ending_of(others: usize) -> u8
     ensures { λ r. ⌜ r ≡ ending others ⌝ }
 {
     if others == 0 {
@@ -88,7 +88,7 @@ fn put_body(text: &mut [u8], at: usize, words: &[u16], rules: usize, nodes: usiz
 }
 
 // The listing of a table of right size.
-pub fn put_listing(text: &mut [u8], at: usize, words: &[u16], literals: &[u8]) -> usize
+pub(crate) fn put_listing(text: &mut [u8], at: usize, words: &[u16], literals: &[u8]) -> usize
     requires { ⌜ sizeOk (now words) (length (now literals)) ≡ true ⌝ }
     ensures { λ r. ⌜ Wrote (now (text .entry)) at (listing (now (words .entry)) (now (literals .entry))) r (now (text .exit)) ⌝ }
 {

@@ -8,7 +8,7 @@ use grammar::Ending;
 use grammar::Fault;
 use grammar::Value;
 
-pub fn move_to(run: Run, stage: Stage, at: u16, frames: u16) -> Run
+pub(crate) fn move_to(run: Run, stage: Stage, at: u16, frames: u16) -> Run
     ensures { λ r. ⌜ r ≡ moved run stage at frames ⌝ }
 {
     Run {
@@ -20,14 +20,14 @@ pub fn move_to(run: Run, stage: Stage, at: u16, frames: u16) -> Run
 }
 
 // To another stage, where the run is.
-pub fn stay(run: Run, stage: Stage) -> Run
+pub(crate) fn stay(run: Run, stage: Stage) -> Run
     ensures { λ r. ⌜ r ≡ staged run stage ⌝ }
 {
     move_to(run, stage, run.at, run.frames)
 }
 
 // A visit made is counted.
-pub fn count(run: Run) -> Run
+pub(crate) fn count(run: Run) -> Run
     requires { ⌜ run .visits < 4294967295 ⌝ }
     ensures { λ r. ⌜ r ≡ visited run ⌝ }
 {
@@ -41,7 +41,7 @@ pub fn count(run: Run) -> Run
 }
 
 // "STUCK, FAULT, BUDGET, DEEP end the run at once": the stage at which an expression has ended it.
-pub fn ended_at(why: Ending, k: u16) -> Stage
+pub(crate) fn ended_at(why: Ending, k: u16) -> Stage
     ensures { λ r. ⌜ r ≡ endedAt why k ⌝ }
 {
     match why {
@@ -56,7 +56,7 @@ pub fn ended_at(why: Ending, k: u16) -> Stage
 }
 
 // "a constraint isn't Bool (the constraint)": the stage after a constraint's value.
-pub fn judge(value: Value, k: u16) -> Stage
+pub(crate) fn judge(value: Value, k: u16) -> Stage
     ensures { λ r. ⌜ r ≡ judged value k ⌝ }
 {
     match value {

@@ -161,7 +161,7 @@ fn failed_in(node: Node, d: u16, run: Run, work: &mut [u32]) -> Run
 }
 
 // Without a frame the run rests.
-pub fn back_matched<'a>(
+pub(crate) fn back_matched<'a>(
     words: &[u16],
     literals: &'a [u8],
     message: &'a [u8],
@@ -186,7 +186,7 @@ pub fn back_matched<'a>(
     )
 }
 
-pub fn back_failed<'a>(
+pub(crate) fn back_failed<'a>(
     words: &[u16],
     literals: &'a [u8],
     message: &'a [u8],

@@ -127,7 +127,7 @@ fn begin<'a>(
 }
 
 // "When a visit is due, the budget (32-bit unsigned) is looked at first, then depth; a visit not made isn't counted."
-pub fn enter<'a>(
+pub(crate) fn enter<'a>(
     words: &[u16],
     literals: &'a [u8],
     message: &'a [u8],

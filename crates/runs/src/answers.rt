@@ -13,7 +13,7 @@ use machine::Run;
 use machine::Stage;
 
 // "Consumed and values are zero or absent unless DONE."
-pub fn without_values(number: u32, place: u32, visits: u32) -> Answer
+pub(crate) fn without_values(number: u32, place: u32, visits: u32) -> Answer
     ensures { λ r. ⌜ r ≡ answered number place 0 visits [] ⌝ }
 {
     Answer {
@@ -72,7 +72,7 @@ fn done(given: Given, run: Run) -> Answer
 }
 
 // The answer of a run at rest. Where a visit is due, the budget is spent.
-pub fn conclude<'a>(
+pub(crate) fn conclude<'a>(
     words: &[u16],
     literals: &'a [u8],
     message: &'a [u8],
@@ -120,7 +120,7 @@ fn place_of(verdict: Verdict) -> u32
 }
 
 // "visits are 0 unless the answer is 0 or 8 to 12."
-pub fn refuse(verdict: Verdict) -> Answer
+pub(crate) fn refuse(verdict: Verdict) -> Answer
     ensures { λ r. ⌜ r ≡ refusal verdict ⌝ }
 {
     without_values(number_of(verdict), place_of(verdict), 0)

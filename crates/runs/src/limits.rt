@@ -7,7 +7,7 @@ ghost use Rattle.grammar.specs.Answer.{workWords};
 use grammar::Verdict;
 
 // "message over 65,535 bytes", then "work area under W words".
-pub fn limits(message: usize, work: usize) -> Verdict
+pub(crate) fn limits(message: usize, work: usize) -> Verdict
     ensures { λ r. ⌜ r ≡ andThen (unlessOk (leb message 65535) Long) (unlessOk (leb workWords work) Work) ⌝ }
 {
     if 65535 < message {
@@ -20,7 +20,7 @@ pub fn limits(message: usize, work: usize) -> Verdict
 }
 
 // One check comes after another.
-pub fn and_then(first: Verdict, later: Verdict) -> Verdict
+pub(crate) fn and_then(first: Verdict, later: Verdict) -> Verdict
     ensures { λ r. ⌜ r ≡ andThen first later ⌝ }
 {
     match first {

@@ -34,7 +34,7 @@ fn run_table<'a>(
 }
 
 // "Answers 1 to 7 change no memory."
-pub fn finish<'a>(
+pub(crate) fn finish<'a>(
     verdict: Verdict,
     words: &[u16],
     literals: &'a [u8],

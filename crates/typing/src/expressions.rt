@@ -45,7 +45,7 @@ fn operator_type(op: Operator, s: u16, t: u16) -> u16
 }
 
 // The type of node k; a node that is no expression stands for a Bool, and no table that passes the check has one here.
-pub fn expression_type(words: &[u16], slots: [u16; 16], k: u16) -> u16
+pub(crate) fn expression_type(words: &[u16], slots: [u16; 16], k: u16) -> u16
     requires { ⌜ CheckedNode (now words) k ⌝ }
     ensures { λ r. ⌜ r ≡ exprType slots (exprAt (now (words .entry)) k) ⌝ }
 {
@@ -68,7 +68,7 @@ pub fn expression_type(words: &[u16], slots: [u16; 16], k: u16) -> u16
 }
 
 // Has node k the type t? None has the type 0.
-pub fn has_type(words: &[u16], slots: [u16; 16], k: u16, t: u16) -> bool
+pub(crate) fn has_type(words: &[u16], slots: [u16; 16], k: u16, t: u16) -> bool
     requires { ⌜ CheckedNode (now words) k ⌝ }
     ensures { λ r. ⌜ r ≡ has slots (exprAt (now (words .entry)) k) t ⌝ }
 {
@@ -90,7 +90,7 @@ fn place_typed(words: &[u16], slots: [u16; 16], n: u16, i: u16, e: u16, t: u16) 
 }
 
 // Four places, of which n are in use: those nodes have their types.
-pub fn places_typed(
+pub(crate) fn places_typed(
     words: &[u16],
     slots: [u16; 16],
     n: u16,

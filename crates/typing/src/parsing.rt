@@ -149,7 +149,7 @@ fn all_received(words: &[u16], slots: [u16; 16], r: u16, s: u16, t: u16, u: u16,
 }
 
 // What node k leaves. A node that is no parsing node leaves all as it is; no table that passes the check has one here.
-pub fn leaves(words: &[u16], slots: [u16; 16], k: u16) -> Typing
+pub(crate) fn leaves(words: &[u16], slots: [u16; 16], k: u16) -> Typing
     requires { ⌜ CheckedNode (now words) k ⌝ }
     ensures { λ r. ⌜ r ≡ left (typeOf (grammarOf (now (words .entry))) slots (parsingAt (now (words .entry)) k)) ⌝ }
 {

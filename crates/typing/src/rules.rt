@@ -81,7 +81,7 @@ fn rule_typed(words: &[u16], r: u16) -> bool
 }
 
 // "a rule fails the type rules": "smallest such rule"
-pub fn typed_rules(words: &[u16]) -> Verdict
+pub(crate) fn typed_rules(words: &[u16]) -> Verdict
     requires { ⌜ Checked (now words) ⌝ }
     ensures { λ v. ⌜ v ≡ typeRules (now (words .entry)) ⌝ }
 {

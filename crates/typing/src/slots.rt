@@ -13,7 +13,7 @@ pub struct Typing {
     pub slots: [u16; 16],
 }
 
-pub fn broken() -> Typing
+pub(crate) fn broken() -> Typing
     ensures { λ r. ⌜ r ≡ left none ⌝ }
 {
     Typing {
@@ -23,7 +23,7 @@ pub fn broken() -> Typing
 }
 
 // The type of a slot; a slot past the sixteen has none.
-pub fn slot_type(slots: [u16; 16], s: u16) -> u16
+pub(crate) fn slot_type(slots: [u16; 16], s: u16) -> u16
     ensures { λ r. ⌜ r ≡ getD slots s 0 ⌝ }
 {
     let at = s as usize;
@@ -40,7 +40,7 @@ fn may_take(old: u16, t: u16) -> bool
     old == t
 }
 
-pub fn assigned(slots: [u16; 16], s: u16, t: u16) -> Typing
+pub(crate) fn assigned(slots: [u16; 16], s: u16, t: u16) -> Typing
     ensures { λ r. ⌜ r ≡ left (assign slots s t) ⌝ }
 {
     if !may_take(slot_type(slots, s), t) {
@@ -58,7 +58,7 @@ pub fn assigned(slots: [u16; 16], s: u16, t: u16) -> Typing
 }
 
 // Are two slots' types the same?
-pub fn same_slots(a: [u16; 16], b: [u16; 16]) -> bool
+pub(crate) fn same_slots(a: [u16; 16], b: [u16; 16]) -> bool
     ensures { λ r. ⌜ r ≡ same a b ⌝ }
 {
     let mut i: usize = 0;
