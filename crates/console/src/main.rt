@@ -4,6 +4,13 @@ use console_text::Response;
 use libc::STDIN_FILENO;
 use libc::STDOUT_FILENO;
 
+// Writes the first bytes of the output; their count is never more than there are.
+fn send(output: &[u8], count: usize) {
+    if count <= output.len() {
+        io::write_all(STDOUT_FILENO, &output[..count]);
+    }
+}
+
 fn main() {
     // one byte more than an input may have
     let mut input = [0u8; 65537];
@@ -21,12 +28,8 @@ fn main() {
         &mut work,
         &mut output,
     ) {
-        // always so, since the slices are as long as they have to be
-        Response::Written(count) => {
-            if count <= 262253 {
-                io::write_all(STDOUT_FILENO, &output[..count]);
-            }
-        }
+        Response::Written(count) => send(&output, count),
+        // never, since the slices are as long as they have to be
         Response::Short => {}
     }
 }
