@@ -8,3 +8,4 @@ pub mod numbers;
 pub mod random;
 pub mod reference;
 pub mod subject;
+pub mod vectors;
