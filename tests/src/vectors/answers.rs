@@ -19,7 +19,7 @@ pub fn of(case: &Case, subject: &dyn Subject) -> String {
         ),
     };
     let answers: Vec<String> = case.tables.iter().map(one).collect();
-    answers.join(", ")
+    answers.join(" | ")
 }
 
 fn verdict((number, place): (u32, u32)) -> String {
