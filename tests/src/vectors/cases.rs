@@ -116,8 +116,16 @@ fn change(case: &mut Case, text: &str) -> Read<()> {
             .collect::<Read<_>>()?,
         None => vec![number(held)?],
     };
-    let changed = held.iter().map(|&held| (place, held)).collect();
-    with_each(case, changed)
+    // A change that changes nothing would try something else than its case says.
+    if held.len() == 1
+        && case
+            .tables
+            .iter()
+            .any(|words| words.get(place) == Some(&held[0]))
+    {
+        return Err(format!("word {place} is {} already", held[0]));
+    }
+    with_each(case, held.iter().map(|&held| (place, held)).collect())
 }
 
 /// `each word 36 to 42 = 1`: a table for each word.
