@@ -4,15 +4,24 @@
 use reader_tests::subject::{Reference, Subject};
 use reader_tests::vectors::{read, written, Item, WORK_WORDS};
 
+#[cfg(feature = "library")]
+fn proved_reader() -> Option<Box<dyn Subject>> {
+    Some(Box::new(reader_tests::library::Library))
+}
+
+#[cfg(not(feature = "library"))]
+fn proved_reader() -> Option<Box<dyn Subject>> {
+    None
+}
+
 fn subjects() -> Vec<(&'static str, Box<dyn Subject>)> {
-    let reference = Reference {
+    let reference: Box<dyn Subject> = Box::new(Reference {
         work_words: WORK_WORDS,
-    };
-    let mut subjects: Vec<(&'static str, Box<dyn Subject>)> =
-        vec![("reference", Box::new(reference))];
-    #[cfg(feature = "library")]
-    subjects.push(("proved reader", Box::new(reader_tests::library::Library)));
-    subjects
+    });
+    let proved = proved_reader().map(|reader| ("proved reader", reader));
+    std::iter::once(("reference", reference))
+        .chain(proved)
+        .collect()
 }
 
 /// The first line that differs, with its number; a missing line is empty.
