@@ -5,6 +5,7 @@ pub mod compare;
 #[cfg(feature = "library")]
 pub mod library;
 pub mod numbers;
+pub mod program;
 pub mod random;
 pub mod reference;
 pub mod subject;

@@ -1,6 +1,5 @@
 //! The proved reader, through its static library: safe wrappers over the exported functions (docs/FIRMWARE.md).
 
-use crate::reference;
 use crate::subject::{Home, ReadAnswer, Record, Span, Subject, Value, WriteAnswer};
 
 extern "C" {
@@ -104,13 +103,23 @@ impl Subject for Library {
 
     fn check(&self, words: &[u16], literals: &[u8]) -> (u32, u32) {
         verdict(unsafe {
-            styrmflo_check(words.as_ptr(), words.len(), literals.as_ptr(), literals.len())
+            styrmflo_check(
+                words.as_ptr(),
+                words.len(),
+                literals.as_ptr(),
+                literals.len(),
+            )
         })
     }
 
     fn type_check(&self, words: &[u16], literals: &[u8]) -> (u32, u32) {
         verdict(unsafe {
-            styrmflo_type_check(words.as_ptr(), words.len(), literals.as_ptr(), literals.len())
+            styrmflo_type_check(
+                words.as_ptr(),
+                words.len(),
+                literals.as_ptr(),
+                literals.len(),
+            )
         })
     }
 
@@ -196,13 +205,11 @@ impl Subject for Library {
         }
     }
 
-    fn text_bytes(&self, message: &[u8], literals: &[u8], value: Value) -> Span {
-        // A Text that no answer can hold, over 16 bits, has no words to ask with.
-        let Some((tag, payload)) = words_of(value) else {
-            return reference::text::text_bytes(message, literals, value);
-        };
+    /// Nothing for a Text that no answer can hold: over 16 bits it has no words to ask with.
+    fn text_bytes(&self, message: &[u8], literals: &[u8], value: Value) -> Option<Span> {
+        let (tag, payload) = words_of(value)?;
         let word = unsafe { styrmflo_text(message.len(), literals.len(), tag, payload) };
-        Span {
+        Some(Span {
             home: if word >> 32 == 1 {
                 Home::Literals
             } else {
@@ -210,14 +217,6 @@ impl Subject for Library {
             },
             start: (word >> 16) as u32 & 65_535,
             length: word as u32 & 65_535,
-        }
-    }
-
-    /// The library has no console; the console program is compared by itself.
-    fn console(&self, input: &[u8]) -> Vec<u8> {
-        let reference = crate::subject::Reference {
-            work_words: WORK_WORDS,
-        };
-        reference.console(input)
+        })
     }
 }

@@ -1,8 +1,9 @@
 //! A thing under test, seen only through slices and answers.
 //!
-//! `Reference` implements `Subject` here. The reader's static library gets its
-//! own module beside this one (`mod library;`) with a second implementor; the
-//! comparison knows nothing but the trait.
+//! `Subject` is the reader as functions, `Console` the console: bytes in, bytes
+//! out. The reference is both. The static library (`library`) is a `Subject`
+//! alone, the console program (`program`) a `Console` alone; the comparison
+//! knows nothing but the traits.
 
 use crate::reference;
 
@@ -92,9 +93,13 @@ pub trait Subject {
     fn write(&self, words: &[u16], literals: &[u8], text: &mut [u8]) -> WriteAnswer;
 
     /// Where the bytes handed out lie: the slice, their start in it, how many.
-    fn text_bytes(&self, message: &[u8], literals: &[u8], value: Value) -> Span;
+    /// Nothing for a value that the subject can't be asked about.
+    fn text_bytes(&self, message: &[u8], literals: &[u8], value: Value) -> Option<Span>;
+}
 
-    fn console(&self, input: &[u8]) -> Vec<u8>;
+pub trait Console {
+    /// What is printed, or why nothing whole came.
+    fn respond(&self, input: &[u8]) -> Result<Vec<u8>, String>;
 }
 
 pub struct Reference {
@@ -141,11 +146,13 @@ impl Subject for Reference {
         reference::listing::write(words, literals, text)
     }
 
-    fn text_bytes(&self, message: &[u8], literals: &[u8], value: Value) -> Span {
-        reference::text::text_bytes(message, literals, value)
+    fn text_bytes(&self, message: &[u8], literals: &[u8], value: Value) -> Option<Span> {
+        Some(reference::text::text_bytes(message, literals, value))
     }
+}
 
-    fn console(&self, input: &[u8]) -> Vec<u8> {
-        reference::console::console(input)
+impl Console for Reference {
+    fn respond(&self, input: &[u8]) -> Result<Vec<u8>, String> {
+        Ok(reference::console::console(input))
     }
 }

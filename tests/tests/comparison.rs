@@ -3,6 +3,7 @@
 mod common;
 
 use common::REFERENCE;
+use reader_tests::compare::consoles::{compare_consoles, FEW};
 use reader_tests::compare::{compare, compare_all_kinds};
 use reader_tests::numbers::*;
 use reader_tests::random::cases::Case;
@@ -18,6 +19,14 @@ fn the_reference_agrees_with_itself_and_reaches_everything() {
         200_000
     };
     let report = compare(&REFERENCE, &REFERENCE, 1, count);
+    println!("{report}");
+    assert!(report.failure.is_none());
+    assert_eq!(report.coverage.missing(), Vec::<String>::new());
+}
+
+#[test]
+fn few_console_inputs_reach_everything() {
+    let report = compare_consoles(&REFERENCE, &REFERENCE, 1, FEW);
     println!("{report}");
     assert!(report.failure.is_none());
     assert_eq!(report.coverage.missing(), Vec::<String>::new());
@@ -105,12 +114,8 @@ impl Subject for Wrong {
         REFERENCE.write(words, literals, text)
     }
 
-    fn text_bytes(&self, message: &[u8], literals: &[u8], value: Value) -> Span {
+    fn text_bytes(&self, message: &[u8], literals: &[u8], value: Value) -> Option<Span> {
         REFERENCE.text_bytes(message, literals, value)
-    }
-
-    fn console(&self, input: &[u8]) -> Vec<u8> {
-        REFERENCE.console(input)
     }
 }
 
@@ -135,8 +140,8 @@ fn a_fault_taken_for_a_failed_match_is_found_and_shrunk() {
     let Case::Run(case) = case else {
         panic!("{shown}");
     };
-    assert!(case.words[1] <= 6, "{shown}");
-    assert_eq!(case.words[0], 1);
+    assert!(case.words[1] <= 10, "{shown}");
+    assert!(case.words[0] <= 2, "{shown}");
     assert!(case.message.is_empty());
     assert!(case.budget <= 2);
     assert!(shown.contains("mode=bench\nbudget="), "{shown}");
@@ -180,4 +185,22 @@ fn a_wrong_line_number_is_found_and_shrunk() {
         panic!("{shown}");
     };
     assert!(case.text.len() < 90, "{shown}");
+}
+
+/// A console that writes a space after the type of an empty Text.
+struct Spaced;
+
+impl Console for Spaced {
+    fn respond(&self, input: &[u8]) -> Result<Vec<u8>, String> {
+        let output = String::from_utf8(REFERENCE.respond(input)?).expect("text");
+        Ok(output.replace("value=3\n", "value=3 \n").into_bytes())
+    }
+}
+
+#[test]
+fn a_wrong_console_is_found_and_shrunk() {
+    let report = compare_consoles(&REFERENCE, &Spaced, 1, FEW);
+    let failure = report.failure.expect("a difference");
+    assert!(failure.shrunk_difference.contains("value=3 \\n"));
+    assert!(failure.shrunk.len() < 200, "{failure}");
 }

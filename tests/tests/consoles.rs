@@ -3,7 +3,7 @@
 mod common;
 
 use common::*;
-use reader_tests::subject::{Home, Span, Subject, Value};
+use reader_tests::subject::{Console, Home, Span, Subject, Value};
 
 const CASE_A: &str = "mode=display
 budget=2
@@ -18,7 +18,8 @@ node=19 0 0 0 0 0 0 0 0 0
 ";
 
 fn console(input: &str) -> String {
-    String::from_utf8(REFERENCE.console(input.as_bytes())).expect("text")
+    let output = REFERENCE.respond(input.as_bytes()).expect("an output");
+    String::from_utf8(output).expect("text")
 }
 
 fn prints(input: &str, heads: [u32; 4], values: [&str; 4]) {
@@ -152,7 +153,7 @@ fn part(home: Home, start: u32, length: u32) -> Span {
 
 #[test]
 fn text_bytes() {
-    let bytes = |value: Value| REFERENCE.text_bytes(b"abc", b"xy", value);
+    let bytes = |value: Value| REFERENCE.text_bytes(b"abc", b"xy", value).expect("a part");
     let nothing = part(Home::Message, 0, 0);
     for value in [Value::Absent, Value::Bool(true), Value::Integer(1)] {
         assert_eq!(bytes(value), nothing);

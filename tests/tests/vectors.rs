@@ -84,11 +84,8 @@ impl Subject for Bent {
     fn write(&self, words: &[u16], literals: &[u8], text: &mut [u8]) -> WriteAnswer {
         REFERENCE.write(words, literals, text)
     }
-    fn text_bytes(&self, message: &[u8], literals: &[u8], value: Value) -> Span {
+    fn text_bytes(&self, message: &[u8], literals: &[u8], value: Value) -> Option<Span> {
         REFERENCE.text_bytes(message, literals, value)
-    }
-    fn console(&self, input: &[u8]) -> Vec<u8> {
-        REFERENCE.console(input)
     }
 }
 

@@ -1,4 +1,4 @@
-//! How often each answer and each kind was reached.
+//! How often each answer of a `Subject` and each kind was reached. INPUT is the console's alone.
 
 use crate::numbers;
 use crate::reference::run::{KindCounts, KINDS};
@@ -61,7 +61,8 @@ impl Coverage {
     /// What was counted, by name.
     fn counts(&self) -> Vec<(String, u64)> {
         let mut all = Vec::new();
-        for (number, name) in numbers::ALL {
+        let of_subject = |(number, _): &(u32, &str)| *number != numbers::INPUT;
+        for (number, name) in numbers::ALL.into_iter().filter(of_subject) {
             let count = self.answers[number as usize];
             all.push((format!("answer {number} {name}"), count));
         }

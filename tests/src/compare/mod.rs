@@ -1,5 +1,7 @@
 //! Two subjects, the same cases, every answer and every lent slice compared.
 
+pub mod console_coverage;
+pub mod consoles;
 pub mod coverage;
 pub mod one;
 pub mod shrink;
@@ -86,7 +88,9 @@ fn failure(
         let unseen = &mut Coverage::default();
         compare_case(left, right, case, unseen).err()
     };
-    let shrunk = shrink::shrink(case, |case| differs(case).is_some());
+    let shrunk = shrink::shrink(case, |case| {
+        shrink::smaller_case(case, &|case| differs(case).is_some())
+    });
     let shrunk_difference = differs(&shrunk).unwrap_or_default();
     Failure {
         seed,

@@ -3,9 +3,8 @@
 use super::coverage::Coverage;
 use crate::numbers::{is_run, BUDGET, DONE};
 use crate::random::cases::{Case, ReadCase, RunCase, TextCase, WriteCase, AFFORDABLE};
-use crate::random::consoles::run_case_of;
 use crate::reference::run::{observe, Lent};
-use crate::subject::{ReadAnswer, Record, Subject, WriteAnswer};
+use crate::subject::{ReadAnswer, Record, Subject, Value, WriteAnswer};
 use std::fmt::Debug;
 
 type Same = Result<(), String>;
@@ -21,11 +20,10 @@ pub fn compare_case(
         Case::Read(case) => compare_read(left, right, case, coverage),
         Case::Write(case) => compare_write(left, right, case, coverage),
         Case::Text(case) => compare_text(left, right, case),
-        Case::Console(input) => compare_console(left, right, input, coverage),
     }
 }
 
-fn same<T: PartialEq + Debug>(what: &str, left: &T, right: &T) -> Same {
+pub fn same<T: PartialEq + Debug>(what: &str, left: &T, right: &T) -> Same {
     if left == right {
         return Ok(());
     }
@@ -66,9 +64,7 @@ fn compare_run(
     same("record", &record, &other)?;
     same_slice("work area", &work, &other_work)?;
     for value in record.values {
-        let part = left.text_bytes(&case.message, &case.literals, value);
-        let other = right.text_bytes(&case.message, &case.literals, value);
-        same("text bytes", &part, &other)?;
+        compare_bytes(left, right, &case.message, &case.literals, value)?;
     }
     if is_run(record.number) {
         coverage.kinds(&observe(&lent(case), &mut [], 0).1);
@@ -197,28 +193,20 @@ fn write_of(subject: &dyn Subject, case: &WriteCase) -> Result<(WriteAnswer, Vec
 }
 
 fn compare_text(left: &dyn Subject, right: &dyn Subject, case: &TextCase) -> Same {
-    let part = left.text_bytes(&case.message, &case.literals, case.value);
-    let other = right.text_bytes(&case.message, &case.literals, case.value);
-    same("text bytes", &part, &other)
+    compare_bytes(left, right, &case.message, &case.literals, case.value)
 }
 
-fn compare_console(
+/// Where both can be asked about the value.
+fn compare_bytes(
     left: &dyn Subject,
     right: &dyn Subject,
-    input: &[u8],
-    coverage: &mut Coverage,
+    message: &[u8],
+    literals: &[u8],
+    value: Value,
 ) -> Same {
-    if let Some(case) = run_case_of(input, left.work_words()) {
-        if !compare_within(left, right, &case)? {
-            return Ok(());
-        }
+    let parts = [left, right].map(|subject| subject.text_bytes(message, literals, value));
+    match parts {
+        [Some(part), Some(other)] => same("text bytes", &part, &other),
+        _ => Ok(()),
     }
-    let [output, other] =
-        [left, right].map(|subject| String::from_utf8_lossy(&subject.console(input)).into_owned());
-    let first = output.lines().next().unwrap_or_default();
-    let number = first
-        .strip_prefix("answer=")
-        .and_then(|text| text.parse().ok());
-    coverage.answer(number.ok_or(format!("console: no answer in {output:?}"))?);
-    same("console", &output, &other)
 }

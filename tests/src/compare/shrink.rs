@@ -12,10 +12,11 @@ const MOST_ROUNDS: usize = 2_000;
 /// Made one by one, as long as none fails.
 pub type Smaller<'a, T> = Box<dyn Iterator<Item = T> + 'a>;
 
-pub fn shrink(case: Case, fails: impl Fn(&Case) -> bool) -> Case {
-    let mut small = case;
+/// `smaller` gives the first smaller one that still fails.
+pub fn shrink<T>(failing: T, smaller: impl Fn(&T) -> Option<T>) -> T {
+    let mut small = failing;
     for _ in 0..MOST_ROUNDS {
-        match first_smaller(&small, &fails) {
+        match smaller(&small) {
             Some(other) => small = other,
             None => break,
         }
@@ -23,7 +24,7 @@ pub fn shrink(case: Case, fails: impl Fn(&Case) -> bool) -> Case {
     small
 }
 
-fn first_smaller(case: &Case, fails: &dyn Fn(&Case) -> bool) -> Option<Case> {
+pub fn smaller_case(case: &Case, fails: &dyn Fn(&Case) -> bool) -> Option<Case> {
     match case {
         Case::Run(case) => first_smaller_run(case, &|case| Some(Case::Run(case)), fails),
         Case::Read(case) => first_smaller_text(&case.text, fails, &|text| {
@@ -39,22 +40,24 @@ fn first_smaller(case: &Case, fails: &dyn Fn(&Case) -> bool) -> Option<Case> {
                 ..case.clone()
             })
         }),
-        Case::Console(input) => match run_case_of(input, 0) {
-            Some(case) => {
-                first_smaller_run(&case, &|case| input_of(&case).map(Case::Console), fails)
-            }
-            None => first_smaller_text(input, fails, &Case::Console),
-        },
     }
 }
 
-fn first_smaller_text(
+/// A console input by its table, message and budget if its lines are right, else by its lines.
+pub fn smaller_input(input: &Vec<u8>, fails: &dyn Fn(&Vec<u8>) -> bool) -> Option<Vec<u8>> {
+    match run_case_of(input, 0) {
+        Some(case) => first_smaller_run(&case, &|case| input_of(&case), fails),
+        None => first_smaller_text(input, fails, &|text| text),
+    }
+}
+
+fn first_smaller_text<T>(
     text: &[u8],
-    fails: &dyn Fn(&Case) -> bool,
-    case: &dyn Fn(Vec<u8>) -> Case,
-) -> Option<Case> {
+    fails: &dyn Fn(&T) -> bool,
+    whole: &dyn Fn(Vec<u8>) -> T,
+) -> Option<T> {
     let texts = fewer_lines(text).into_iter().chain(shorter(text));
-    texts.map(case).find(fails)
+    texts.map(whole).find(fails)
 }
 
 fn first_smaller_write(case: &WriteCase, fails: &dyn Fn(&Case) -> bool) -> Option<Case> {
@@ -76,12 +79,12 @@ fn first_smaller_write(case: &WriteCase, fails: &dyn Fn(&Case) -> bool) -> Optio
     cases.find(fails)
 }
 
-/// `whole` makes a case of any sort from the smaller run.
-fn first_smaller_run(
+/// `whole` makes what is compared from the smaller run.
+fn first_smaller_run<T>(
     case: &RunCase,
-    whole: &dyn Fn(RunCase) -> Option<Case>,
-    fails: &dyn Fn(&Case) -> bool,
-) -> Option<Case> {
+    whole: &dyn Fn(RunCase) -> Option<T>,
+    fails: &dyn Fn(&T) -> bool,
+) -> Option<T> {
     let draft = Draft::of(&case.words, &case.literals);
     let tables = draft.iter().flat_map(smaller_tables).map(|draft| RunCase {
         words: draft.words(),
@@ -152,6 +155,5 @@ pub fn shown(case: &Case) -> String {
             hex_of(&case.literals)
         ),
         Case::Text(case) => format!("{case:?}\n"),
-        Case::Console(input) => format!("console input:\n{}", String::from_utf8_lossy(input)),
     }
 }

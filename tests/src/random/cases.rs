@@ -3,7 +3,7 @@
 use super::damage::{damaged, slices_of, Slices};
 use super::draft::Draft;
 use super::prng::Random;
-use super::{consoles, listings, messages, tables};
+use super::{listings, messages, tables};
 use crate::numbers::{is_run, BUDGET, DONE};
 use crate::reference::console::MOST_WORDS;
 use crate::reference::listing::listing_of;
@@ -52,17 +52,18 @@ pub enum Case {
     Read(ReadCase),
     Write(WriteCase),
     Text(TextCase),
-    Console(Vec<u8>),
 }
 
 pub fn case(seed: u64, work_words: usize) -> Case {
     let random = &mut Random::new(seed);
-    match random.weighed(&[70, 12, 5, 3, 10]) {
-        0 => Case::Run(run_case(random, work_words)),
+    match random.weighed(&[77, 14, 6, 3]) {
+        0 => {
+            let hurt = random.chance(200);
+            Case::Run(run_case(random, hurt, work_words))
+        }
         1 => Case::Read(read_case(random)),
         2 => Case::Write(write_case(random)),
-        3 => Case::Text(text_case(random)),
-        _ => Case::Console(console_case(random)),
+        _ => Case::Text(text_case(random)),
     }
 }
 
@@ -93,9 +94,9 @@ pub fn probe(words: &[u16], literals: &[u8], message: &[u8]) -> Option<(u32, u32
     (record.number != BUDGET).then_some((record.number, record.visits))
 }
 
-fn run_case(random: &mut Random, work_words: usize) -> RunCase {
+pub fn run_case(random: &mut Random, hurt: bool, work_words: usize) -> RunCase {
     let (draft, slipped) = draft(random);
-    let slices = match random.chance(200) {
+    let slices = match hurt {
         true => damaged(random, &draft),
         false => slices_of(&draft),
     };
@@ -228,15 +229,4 @@ fn text_case(random: &mut Random) -> TextCase {
         literals,
         value,
     }
-}
-
-fn console_case(random: &mut Random) -> Vec<u8> {
-    let (draft, slipped) = draft(random);
-    let slices = slices_of(&draft);
-    let message = message_for(random, &draft, &slices);
-    let message = &message[..message.len().min(2_000)];
-    let budget = budget_for(random, &slices, message);
-    let display = mode(random, slipped);
-    let right = consoles::input_text(display, budget, message, &listing(&draft));
-    consoles::perhaps_hurt(random, right)
 }

@@ -47,21 +47,48 @@ pub fn input_of(case: &RunCase) -> Option<Vec<u8>> {
     ))
 }
 
-pub fn perhaps_hurt(random: &mut Random, right: Vec<u8>) -> Vec<u8> {
+/// One input from one seed: most ask for a real run, the others are hurt in the
+/// table, in a line, or in their length.
+pub fn input(seed: u64) -> Vec<u8> {
+    let random = &mut Random::new(seed);
+    let way = random.weighed(&[600, 170, 180, 50]);
+    let right = with_right_lines(random, way == 1);
     let mut input = right.clone();
-    match random.weighed(&[500, 460, 12, 12, 8, 8]) {
-        0 => return right,
-        1 => listings::hurt(random, &mut input),
-        2 => input = padded(&right, MOST_INPUT),
-        3 => input = padded(&right, MOST_INPUT + 1),
-        4 => input.resize(MOST_INPUT, b'x'),
+    match way {
+        2 => listings::hurt(random, &mut input),
+        3 => input = long(random, &right),
+        _ => {}
+    }
+    match run_case_of(&input, 0) {
+        Some(case) if !ends_soon(&case) => right,
+        _ => input,
+    }
+}
+
+fn with_right_lines(random: &mut Random, hurt: bool) -> Vec<u8> {
+    loop {
+        let mut case = cases::run_case(random, hurt, 0);
+        case.message.truncate(2_000);
+        if !ends_soon(&case) {
+            case.budget = AFFORDABLE;
+        }
+        // a table hurt in its sizes has no listing
+        if let Some(input) = input_of(&case) {
+            return input;
+        }
+    }
+}
+
+/// At or over the greatest length.
+fn long(random: &mut Random, right: &[u8]) -> Vec<u8> {
+    let mut input = right.to_vec();
+    match random.weighed(&[3, 3, 2, 2]) {
+        0 => return padded(right, MOST_INPUT),
+        1 => return padded(right, MOST_INPUT + 1),
+        2 => input.resize(MOST_INPUT, b'x'),
         _ => input.resize(MOST_INPUT + 1 + random.below(3), 10),
     }
-    if ends_soon(&input) {
-        input
-    } else {
-        right
-    }
+    input
 }
 
 /// The same input with a longer message, to have just the wanted length: an odd
@@ -85,13 +112,7 @@ fn padded(right: &[u8], wanted: usize) -> Vec<u8> {
     right.to_vec()
 }
 
-/// Whether a run of this input stays within what a comparison can afford.
-fn ends_soon(input: &[u8]) -> bool {
-    match run_case_of(input, 0) {
-        Some(case) => {
-            case.budget <= AFFORDABLE
-                || cases::probe(&case.words, &case.literals, &case.message).is_some()
-        }
-        None => true,
-    }
+/// Whether a run stays within what a comparison can afford.
+fn ends_soon(case: &RunCase) -> bool {
+    case.budget <= AFFORDABLE || cases::probe(&case.words, &case.literals, &case.message).is_some()
 }

@@ -11,12 +11,13 @@ pub struct Slices {
 
 pub fn damaged(random: &mut Random, draft: &Draft) -> Slices {
     let mut draft = draft.clone();
-    match random.weighed(&[45, 12, 12, 8, 4, 19]) {
+    match random.weighed(&[40, 14, 12, 6, 5, 4, 19]) {
         0 => hurt_records(random, &mut draft),
         1 => hurt_use(random, &mut draft),
         2 => hurt_kind(random, &mut draft),
         3 => hurt_literals(random, &mut draft),
-        4 => grow(random, &mut draft),
+        4 => hurt_start(random, &mut draft),
+        5 => grow(random, &mut draft),
         _ => {
             let mut slices = slices_of(&draft);
             hurt_sizes(random, &mut slices);
@@ -121,6 +122,12 @@ fn hurt_kind(random: &mut Random, draft: &mut Draft) {
 fn hurt_literals(random: &mut Random, draft: &mut Draft) {
     let most = draft.literals.len();
     draft.literals.truncate(random.below(most + 1));
+}
+
+/// Rule 0 inherits something; sound otherwise, unless it is called.
+fn hurt_start(random: &mut Random, draft: &mut Draft) {
+    draft.rules[0][1] = 1;
+    draft.rules[0][2] = random.between(1, 3) as u16;
 }
 
 /// To the greatest count there is, or one more; sound otherwise.

@@ -13,10 +13,7 @@ pub fn of(case: &Case, subject: &dyn Subject) -> String {
         Asked::TypeCheck => verdict(subject.type_check(words, &case.literals)),
         Asked::Bench => run(case, words, false, subject),
         Asked::Display => run(case, words, true, subject),
-        Asked::Text => part(
-            case,
-            subject.text_bytes(&case.message, &case.literals, case.value),
-        ),
+        Asked::Text => part(case, handed_out(case.value, case, subject)),
     };
     let answers: Vec<String> = case.tables.iter().map(one).collect();
     answers.join(" | ")
@@ -102,7 +99,7 @@ fn value_text(value: Value, case: &Case, subject: &dyn Subject) -> String {
         Value::Bool(held) => format!("Bool {}", held as u8),
         Value::Integer(held) => format!("Integer {held}"),
         Value::Text(span) => {
-            let handed = subject.text_bytes(&case.message, &case.literals, value);
+            let handed = handed_out(value, case, subject);
             if handed != span {
                 return format!(
                     "Text {} but {} handed out",
@@ -113,6 +110,12 @@ fn value_text(value: Value, case: &Case, subject: &dyn Subject) -> String {
             format!("Text {}", part(case, span))
         }
     }
+}
+
+fn handed_out(value: Value, case: &Case, subject: &dyn Subject) -> Span {
+    subject
+        .text_bytes(&case.message, &case.literals, value)
+        .expect("a Text of 16-bit numbers")
 }
 
 /// Slice, start, length and the bytes themselves.
