@@ -1,0 +1,8 @@
+//! Styrmflo: what the benchmark runs, and how it takes times.
+
+pub mod contenders;
+pub mod grammars;
+pub mod lpeg;
+pub mod print;
+pub mod runs;
+pub mod sections;
