@@ -1,5 +1,4 @@
 -- Up to four expressions in a row, as code gathers their values. Assumes nothing.
-use mathlib.Core.List.{List}
 use mathlib.Core.Bool.{cond}
 use Prim.Native.Nat.{ℕ, zero, suc}
 use lib.Dec.{ltb}

@@ -1,6 +1,6 @@
 -- How long what the console reads and prints is at most. Assumes nothing.
-use mathlib.Core.Path.{_≡_, refl, sym, ap, _∙_}
-use mathlib.Core.List.{List, [], _∷_, _++_}
+use mathlib.Core.Path.{_≡_, refl, ap}
+use mathlib.Core.List.{List, [], _∷_}
 use mathlib.Core.Bool.{Bool, true, false, cond}
 use Prim.Native.Nat.{ℕ, suc, _+_, _*_, _≤_}
 use native.Mathlib.Omega.{arith}
@@ -32,7 +32,7 @@ use Rattle.console_text.specs.declared.request.ModeLine.{ModeLine}
 use Rattle.console_text.specs.declared.request.ModeLine.the-variants as M
 use Rattle.console_text.specs.Asked.{Said, says, wrongLine, onSaid, onMode, Table, Asked, bodySaid, modeLine, budgetAt, messageAt, tableAt, fromFourth, fromThird, fromSecond, said}
 use Rattle.console_text.specs.Printed.{answerKey, placeKey, consumedKey, visitsKey, numberLine, textText, valueText, valueLine, numberLines, valueLines, answerLines}
-use Rattle.console_text.specs.Console.{longestInput, lineRecord, answerTo, ConsoleAnswer, tooLong, wrongAt, ran, consoleAnswer, printed, consoleText}
+use Rattle.console_text.specs.Console.{longestInput, lineRecord, answerTo, tooLong, wrongAt, ran, consoleAnswer, printed, consoleText}
 use Rattle.console_text.specs.Lent.{messageBytes, tableWords, tableLiterals, outputBytes}
 use Rattle.console_text.proofs.Tables.{message-found}
 

@@ -1,7 +1,7 @@
 -- The whole answer on lent slices: what the parts leave is what Lent.antt says. Assumes nothing.
 use mathlib.Core.Path.{_≡_, refl, sym, ap, _∙_}
-use mathlib.Core.List.{List, [], _∷_}
-use mathlib.Core.Bool.{Bool, true, false}
+use mathlib.Core.List.{List, []}
+use mathlib.Core.Bool.{true, false}
 use Prim.Native.Nat.{ℕ, _≤_, _<_}
 use native.Mathlib.Omega.{arith}
 use lib.Dec.{leb}
@@ -10,19 +10,18 @@ use lib.Seq.{take-append-seam}
 use borrow.Author.Tests.{lt-ltb, le-ltb, le-leb, leb-true}
 use Rattle.laws.specs.Stores.{sets-front, over}
 use Rattle.grammar.specs.declared.Mode.{Mode}
-use Rattle.grammar.specs.declared.Answer.{Answer}
 use Rattle.grammar.specs.Form.{every}
 use Rattle.grammar.specs.Answer.{answer, workAfter, workWords, check}
-use Rattle.text.specs.Stored.{Wrote, largestPlace}
+use Rattle.text.specs.Stored.{Wrote}
 use Rattle.text.proofs.Writing.{wrote-as}
-use Rattle.listing.proofs.Size.{both}
+use Rattle.laws.specs.Tests.{both}
 use Rattle.console_text.specs.declared.Response.the-variants.{Written, Short}
 use Rattle.console_text.specs.declared.request.Request.{Request}
 use Rattle.console_text.specs.declared.request.Request.the-variants as R
 use Rattle.console_text.specs.Asked.{Said, says, wrongLine, onSaid, Asked, said}
 use Rattle.console_text.specs.Printed.{answerKey, numberLine, answerLines}
 use Rattle.console_text.specs.Console.{INPUT, longestInput, answerTo, lineRecord, ConsoleAnswer, tooLong, wrongAt, ran, consoleAnswer, printed, consoleText}
-use Rattle.console_text.specs.Lent.{messageBytes, tableWords, tableLiterals, outputBytes, Lent, lent, Roomy, enough, Readied, readied, ready, Responded, responded, afterwards, respond}
+use Rattle.console_text.specs.Lent.{messageBytes, tableWords, tableLiterals, outputBytes, Lent, lent, Roomy, enough, Readied, readied, ready, responded, afterwards, respond}
 use Rattle.console_text.proofs.Lengths.{text-most}
 
 -- ════ Room ════

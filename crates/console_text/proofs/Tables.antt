@@ -4,10 +4,8 @@ use mathlib.Core.List.{List, [], _∷_, _++_}
 use Prim.Native.Nat.{ℕ, _+_, _*_, _≤_}
 use native.Mathlib.Omega.{arith}
 use lib.ListN.{length, drop, length-append, length-drop}
-use lib.Seq.{sets}
 use borrow.Author.Tests.{le-ltb}
 use Rattle.laws.specs.Stores.{sets-front, over}
-use Rattle.laws.specs.Parts.{Stands}
 use Rattle.grammar.specs.declared.Mode.{Mode}
 use Rattle.text.specs.declared.Place.{Place}
 use Rattle.text.specs.declared.Place.the-variants as P
@@ -23,7 +21,7 @@ use Rattle.listing.specs.declared.reader.Head.{Head}
 use Rattle.listing.specs.declared.reader.Head.the-variants as H
 use Rattle.listing.specs.declared.Reading.{Reading}
 use Rattle.listing.specs.declared.Reading.the-variants.{Done, Line, Room}
-use Rattle.listing.specs.Reading.{keyAt, onHead, onLines, headAt, bodyAt, Filled, filled, fill, refused, readBody, readRest, readFrom}
+use Rattle.listing.specs.Reading.{keyAt, onHead, onLines, headAt, bodyAt, Filled, filled, fill, refused, readRest, readFrom}
 use Rattle.listing.proofs.Whole.{head-found}
 use Rattle.console_text.specs.Asked.{messageKey, Said, says, wrongLine, onSaid, Table, bodySaid, tableAt, messageAt, fromFourth}
 use Rattle.console_text.specs.Console.{longestInput}

@@ -1,5 +1,5 @@
 -- What crosses the boundary to C and Rust: numbers, and words of lent slices; a word past a slice's end is not stored. Assumes nothing.
-use mathlib.Core.List.{List, [], _∷_}
+use mathlib.Core.List.{List}
 use mathlib.Core.Bool.{cond}
 use Prim.Native.Nat.{ℕ, _+_, _*_}
 use lib.Dec.{leb}
@@ -11,9 +11,8 @@ use Rattle.grammar.specs.declared.Value.the-variants as Val
 use Rattle.grammar.specs.Answer.{number, place}
 use Rattle.values.specs.Slots.{withSlot}
 use Rattle.listing.specs.declared.Reading.{Reading}
-use Rattle.listing.specs.declared.Reading.the-variants as Reads
 use Rattle.listing.specs.declared.Writing.{Writing}
-use Rattle.listing.specs.declared.Writing.the-variants as Writes
+use Rattle.listing.specs.Answers.{readingNumber, readingPlace, readingWords, readingLiterals, writingNumber, writingPlace, writingLength}
 
 -- a check's answer: 65536 times its number, and its place
 unfoldable pub verdictWord : Verdict → ℕ
@@ -31,15 +30,11 @@ withFour words a b c d = set (set (set (set words 0 a) 1 b) 2 c) 3 d
 
 -- the listing reader's answer: number, line, words, literals
 unfoldable pub withReading : List ℕ → Reading → List ℕ
-withReading answer (Reads.Done words literals) = withFour answer 0 0 words literals
-withReading answer (Reads.Line n) = withFour answer 20 n 0 0
-withReading answer Reads.Room = withFour answer 21 0 0 0
+withReading answer r = withFour answer (readingNumber r) (readingPlace r) (readingWords r) (readingLiterals r)
 
--- the listing writer's answer: number, 0, length, 0
+-- the listing writer's answer: number, place, length, 0
 unfoldable pub withWriting : List ℕ → Writing → List ℕ
-withWriting answer (Writes.Done length) = withFour answer 0 0 length 0
-withWriting answer Writes.Size = withFour answer 1 0 0 0
-withWriting answer Writes.Out = withFour answer 22 0 0 0
+withWriting answer w = withFour answer (writingNumber w) (writingPlace w) (writingLength w) 0
 
 -- where a value's bytes stand, in a message and literals of these lengths: 4294967296 for the literals, 65536 times the start, and the length;
 -- 0, an empty part at the start of the message, for an absent or other value and for a part that doesn't fit

@@ -12,6 +12,7 @@ use grammar::Verdict;
 use listing::Reading;
 use listing::Writing;
 use values::slots::write_slot;
+use values::slots::write_word;
 
 pub(crate) fn verdict_word(verdict: Verdict) -> u32
     ensures { λ r. ⌜ r ≡ verdictWord verdict ⌝ }
@@ -28,21 +29,13 @@ pub(crate) fn verdict_word(verdict: Verdict) -> u32
     }
 }
 
-fn put_word(words: &mut [u32], at: usize, word: u32)
-    ensures { λ _. ⌜ now (words .exit) ≡ set (now (words .entry)) at word ⌝ }
-{
-    if at < words.len() {
-        words[at] = word;
-    }
-}
-
 fn put_head(words: &mut [u32], a: u32, b: u32, c: u32, d: u32)
     ensures { λ _. ⌜ now (words .exit) ≡ withFour (now (words .entry)) a b c d ⌝ }
 {
-    put_word(words, 0, a);
-    put_word(words, 1, b);
-    put_word(words, 2, c);
-    put_word(words, 3, d);
+    write_word(words, 0, a);
+    write_word(words, 1, b);
+    write_word(words, 2, c);
+    write_word(words, 3, d);
 }
 
 pub(crate) fn put_record(twelve: &mut [u32], answer: Answer)

@@ -4,7 +4,7 @@ mod boundary;
 ghost use mathlib.Core.Path.{_≡_};
 ghost use lib.ListN.{length};
 ghost use Rattle.grammar.specs.declared.Mode.the-variants.{Bench, Display};
-ghost use Rattle.grammar.specs.Form.{formCheck};
+ghost use Rattle.grammar.specs.Form.{tableCheck};
 ghost use Rattle.grammar.specs.Answer.{answer, typeCheck, workAfter};
 ghost use Rattle.values.specs.Slots.{valueOf};
 ghost use Rattle.listing.specs.Reading.{read};
@@ -19,7 +19,7 @@ use crate::boundary::verdict_word;
 // The checks 1 to 4: 65536 times the answer's number, and its place.
 #[no_mangle]
 pub extern "C" fn styrmflo_check(words: &[u16], literals: &[u8]) -> u32
-    ensures { λ r. ⌜ r ≡ verdictWord (formCheck (now (words .entry)) (now (literals .entry))) ⌝ }
+    ensures { λ r. ⌜ r ≡ verdictWord (tableCheck (now (words .entry)) (now (literals .entry))) ⌝ }
 {
     verdict_word(form::check(words, literals))
 }

@@ -1,4 +1,4 @@
--- The scans of the form check: records in their order, and the node that a word uses. Assumes nothing.
+-- The scans of the table check: records in their order, and the node that a word uses. Assumes nothing.
 use mathlib.Core.List.{List}
 use mathlib.Core.Bool.{Bool, cond}
 use mathlib.Core.Option.{Option, none, some}
@@ -37,8 +37,3 @@ pub record Sized (words : List ℕ) : Type 0 where
   pub few-rules : ruleCount words ≤ 64
   pub few-nodes : nodeCount words ≤ 1024
   pub long : length words ≡ 3 + 15 * ruleCount words + 10 * nodeCount words
-
--- what is told of SIZE
-pub record SizeTold (words literals : List ℕ) (passed : Bool) : Type 0 where
-  pub same : passed ≡ sizeOk words (length literals)
-  pub sized : T passed → Sized words

@@ -4,10 +4,10 @@ mod words;
 
 ghost use mathlib.Core.Path.{_≡_};
 ghost use Prim.Native.Nat.{_+_, _*_};
-ghost use lib.ListN.{getD, set};
 ghost use Rattle.grammar.specs.Answer.{workWords};
 ghost use Rattle.frames.specs.Frames.{base, cleared, written, unset, nodeIn, phaseIn, fromIn, saved, pushed, inSecond, restored};
 use grammar::Value;
+use values::slots::write_word;
 
 // Where frame d starts.
 fn start(d: u16) -> usize
@@ -40,7 +40,7 @@ pub fn save(work: &mut [u32], d: u16, at: u16)
     ensures { λ _. ⌜ now (work .exit) ≡ saved (now (work .entry)) d at ⌝ }
 {
     let first = start(d);
-    words::put(work, first + 2, at as u32);
+    write_word(work, first + 2, at as u32);
     words::copy(work, 0, first + 6, 32);
 }
 
@@ -49,8 +49,8 @@ pub fn push(work: &mut [u32], d: u16, k: u16, at: u16)
     ensures { λ _. ⌜ now (work .exit) ≡ pushed (now (work .entry)) d k at ⌝ }
 {
     let first = start(d);
-    words::put(work, first, k as u32);
-    words::put(work, first + 1, 0);
+    write_word(work, first, k as u32);
+    write_word(work, first + 1, 0);
     save(work, d, at);
 }
 
@@ -58,7 +58,7 @@ pub fn push(work: &mut [u32], d: u16, k: u16, at: u16)
 pub fn second(work: &mut [u32], d: u16)
     ensures { λ _. ⌜ now (work .exit) ≡ inSecond (now (work .entry)) d ⌝ }
 {
-    words::put(work, start(d) + 1, 1);
+    write_word(work, start(d) + 1, 1);
 }
 
 // The slots that the node of frame d began with are in use again.

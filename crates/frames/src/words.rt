@@ -1,21 +1,14 @@
 // Words of a lent area, read and written for every index: past the end a read gives 0, and a write does nothing.
 ghost use mathlib.Core.Path.{_≡_};
 ghost use Prim.Native.Nat.{_+_, _≤_, _<_};
-ghost use lib.ListN.{length, getD, set};
+ghost use lib.ListN.{length, getD};
 ghost use Rattle.frames.specs.Frames.{copied, cleared};
+use values::slots::write_word;
 
 pub(crate) fn get(words: &[u32], i: usize) -> u32
     ensures { λ r. ⌜ r ≡ getD (now (words .entry)) i 0 ⌝ }
 {
     if i < words.len() { words[i] } else { 0 }
-}
-
-pub(crate) fn put(words: &mut [u32], i: usize, word: u32)
-    ensures { λ _. ⌜ now (words .exit) ≡ set (now (words .entry)) i word ⌝ }
-{
-    if i < words.len() {
-        words[i] = word;
-    }
 }
 
 // All the words are there, so that no test stands in the loop: most of a run's time goes into these copies.
@@ -36,7 +29,7 @@ fn copy_across(words: &mut [u32], from: usize, to: usize, n: usize)
 {
     for i in 0..n {
         let word = get(words, from + i);
-        put(words, to + i, word);
+        write_word(words, to + i, word);
     }
 }
 

@@ -11,6 +11,7 @@ use Rattle.grammar.specs.declared.Answer.{Answer}
 use Rattle.grammar.specs.declared.Mode.{Mode}
 use Rattle.grammar.specs.declared.Mode.the-variants.{Bench, Display}
 use Rattle.laws.specs.Counting.{tabulate, smallestFailing, howMany}
+use Rattle.laws.specs.Same.{same}
 use Rattle.grammar.specs.Numbers.{DONE, TYPE, NOMATCH, BUDGET, DEEP, STUCK, FAULT}
 use Rattle.grammar.specs.Words.{signed, nodes, nodeFor, nodeAt}
 use Rattle.grammar.specs.Tree.{node, exprOf, parsingOf, exprWith, exprAt, parsingWith, parsingAt, ruleAt, grammarOf}
@@ -217,5 +218,5 @@ cases =
     ∷ []
 
 pub bench : map given cases ≡ map (λ (c : Case). c .expected) cases
-unfolding given cases tableA tableE tableF tableG tableH tableI tableJ tableK tableL tableM tableN tableO tabulate smallestFailing howMany signed nodes nodeFor nodeAt node exprOf parsingOf exprWith exprAt parsingWith parsingAt ruleAt grammarOf F.fieldSorts F.fieldSort F.ruleSorts F.fits F.ruleWordOk F.nodeWordOk F.wordOk F.usesNode F.wordUses F.uses F.every F.sizeOk F.formCheck T.same T.operatorType T.exprType T.has T.haveAll T.assign T.assignAll T.typeOf T.typedAfter T.typedRule T.untyped L.fitting L.quotient L.calculated L.spanBytes L.textBytes L.sameBytes L.sameTexts L.equal L.lookLeft L.operate L.negated R.eval R.evalAll R.next R.withValue R.judged R.fresh R.receive R.byteStands R.rounds R.due R.returning R.visit R.admit R.apply A.number A.place A.endingNumber A.typeRules typeCheck A.check A.run A.answerOf A.refusal A.conclude answer
+unfolding given cases tableA tableE tableF tableG tableH tableI tableJ tableK tableL tableM tableN tableO tabulate smallestFailing howMany signed nodes nodeFor nodeAt node exprOf parsingOf exprWith exprAt parsingWith parsingAt ruleAt grammarOf F.fieldSorts F.fieldSort F.ruleSorts F.fits F.ruleWordOk F.nodeWordOk F.wordOk F.usesNode F.wordUses F.uses F.every F.sizeOk F.tableCheck same T.operatorType T.exprType T.has T.haveAll T.assign T.assignAll T.typeOf T.typedAfter T.typedRule T.untyped L.fitting L.quotient L.calculated L.spanBytes L.textBytes L.sameTexts L.equal L.lookLeft L.operate L.negated R.eval R.evalAll R.next R.withValue R.judged R.fresh R.receive R.byteStands R.rounds R.due R.returning R.visit R.admit R.apply A.number A.place A.endingNumber A.typeRules typeCheck A.check A.run A.answerOf A.refusal A.conclude answer
 bench = refl

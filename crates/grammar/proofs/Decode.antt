@@ -1,6 +1,6 @@
 -- In a sound table each node's tree is made of its parts' trees, and each rule of the grammar is that of its record. Assumes nothing.
 use mathlib.Core.Path.{_≡_, refl, ap, _∙_}
-use mathlib.Core.List.{List, map}
+use mathlib.Core.List.{List}
 use Prim.Native.Nat.{ℕ, zero, suc, _<_}
 use native.Mathlib.Nat.{zero-add}
 use native.Mathlib.Omega.{arith}
@@ -105,19 +105,10 @@ module _ (words : List ℕ) where
     unfolding grammarOf
     rule-tree = at-tabulate (ruleAt words) 0 (ruleCount words) r _ h ∙ rw zero-add
 
-    pub body-tree : ruleOf (grammarOf words) r .body ≡ parsingAt words (ruleWord words r 0)
-    unfolding ruleAt
-    body-tree = ap (λ (R : Rule). R .body) rule-tree
-
     pub inherited-types : ruleOf (grammarOf words) r .inherited ≡
         four (inheritedCount words r) (ruleWord words r 2) (ruleWord words r 3) (ruleWord words r 4) (ruleWord words r 5)
     unfolding ruleAt
     inherited-types = ap (λ (R : Rule). R .inherited) rule-tree
-
-    pub returned-trees : ruleOf (grammarOf words) r .returned ≡
-        map (exprAt words) (four (returnedCount words r) (ruleWord words r 7) (ruleWord words r 8) (ruleWord words r 9) (ruleWord words r 10))
-    unfolding ruleAt
-    returned-trees = ap (λ (R : Rule). R .returned) rule-tree
 
     pub returned-types : ruleOf (grammarOf words) r .returnedTypes ≡
         four (returnedCount words r) (ruleWord words r 11) (ruleWord words r 12) (ruleWord words r 13) (ruleWord words r 14)

@@ -24,34 +24,16 @@ use Rattle.grammar.specs.declared.Mode.the-variants.{Bench, Display}
 use Rattle.grammar.specs.Numbers.{DONE, STUCK}
 use Rattle.grammar.specs.Words.{ruleCount, ruleWord, returnedCount}
 use Rattle.grammar.specs.Tree.{Grammar, ruleOf, grammarOf}
-use Rattle.grammar.specs.Form.{formCheck}
-use Rattle.grammar.specs.Types.{Env, typeOf, startEnv, haveAll, typedAfter, typedRule, untyped}
+use Rattle.grammar.specs.Form.{tableCheck}
+use Rattle.grammar.specs.Types.{Env, typeNumber, typesOf, typeOf, startEnv, haveAll, typedAfter, typedRule, untyped}
 use Rattle.grammar.specs.Run.{Setting, Applied, failed, ended, outOfFuel, fresh}
 use Rattle.grammar.specs.Answer.{number, endingNumber, typeRules, typeCheck, check, deepestVisit, run, answered, answerOf, refusal, conclude, settingOf, answer}
-use Rattle.grammar.proofs.Facts.{SoundTable, sizes, andThen-passed, refusedAt-passed, sound-of-form, start-inherits-none}
+use Rattle.grammar.specs.Demand.{Declared, WellTyped}
+use Rattle.grammar.proofs.Facts.{SoundTable, sizes, followedBy-passed, refusedAt-passed, sound-of-form, start-inherits-none}
 use Rattle.grammar.proofs.Records.{four-places, rule-right}
 use Rattle.grammar.proofs.Decode.{inherited-types, returned-types}
-use Rattle.grammar.proofs.Typed.{typeNumber, typesOf, evalAll-good}
+use Rattle.grammar.proofs.Typed.{evalAll-good}
 use Rattle.grammar.proofs.Sound.{Sound, sound-matched, sound-failed, sound-ended, sound-out, NotStuck, next-sound, withValue-sound, types-fresh, typed-body, TypedGrammar, apply-sound}
-
--- ════ What demand 3 says ════
-
-abbrev pub valuesOf : Answer → List Value
-valuesOf a = a .value0 ∷ a .value1 ∷ a .value2 ∷ a .value3 ∷ []
-
--- value i of the record
-abbrev pub valueAt : Answer → ℕ → Value
-valueAt a i = getD (valuesOf a) i Val.Absent
-
--- what the start rule of a table declares of the values that an answer holds
-pub record Declared (words : List ℕ) (a : Answer) : Type 0 where
-  pub typed : (i : ℕ) → i < returnedCount words 0 → (typeNumber (valueAt a i) ≡ ruleWord words 0 (11 + i)) × (1 ≤ typeNumber (valueAt a i))
-  pub absent : (i : ℕ) → returnedCount words 0 ≤ i → valueAt a i ≡ Val.Absent
-
--- It is not STUCK, and if it is DONE the values are as declared
-pub record WellTyped (words : List ℕ) (a : Answer) : Type 0 where
-  pub never-stuck : a .number ≢ STUCK
-  pub values-declared : a .number ≡ DONE → Declared words a
 
 -- ════ The type check passes: every rule is typed ════
 
@@ -162,9 +144,9 @@ module _ (words literals : List ℕ) where
   concluded-well Work ran h = undone words (refusal Work) (omega arith)
 
   -- passed by the type check
-  typed-passed : typeCheck words literals ≡ Passed → (formCheck words literals ≡ Passed) × (typeRules words ≡ Passed)
+  typed-passed : typeCheck words literals ≡ Passed → (tableCheck words literals ≡ Passed) × (typeRules words ≡ Passed)
   unfolding typeCheck
-  typed-passed e = andThen-passed (formCheck words literals) (typeRules words) e
+  typed-passed e = followedBy-passed (tableCheck words literals) (typeRules words) e
 
   run-well : typeCheck words literals ≡ Passed → (message : List ℕ) (budget : ℕ) → WellTyped words (answerOf (run (settingOf words literals message) budget))
   unfolding typeRules
@@ -180,7 +162,7 @@ module _ (words literals : List ℕ) where
   unfolding answer check
   display-well-typed message budget workLength =
       concluded-well (check Display words literals (length message) workLength) (run (settingOf words literals message) budget)
-      (λ e. run-well (andThen-passed (typeCheck words literals) _ e .0) message budget)
+      (λ e. run-well (followedBy-passed (typeCheck words literals) _ e .0) message budget)
 
   -- A bench run of a table that passes the type check is a display run: the same checks, and the same answer, so demand 3 holds of it too
   pub same-check : typeCheck words literals ≡ Passed → (messageLength workLength : ℕ) → check Bench words literals messageLength workLength ≡ check Display words literals messageLength workLength

@@ -1,4 +1,4 @@
--- What the form check gives the readers of a table: its sizes, and the test that each word of a record passes. Assumes nothing.
+-- What the table check gives the readers of a table: its sizes, and the test that each word of a record passes. Assumes nothing.
 use mathlib.Core.Path.{_≡_, refl, subst}
 use mathlib.Core.List.{List, [], _∷_}
 use mathlib.Core.Bool.{Bool, true, false}
@@ -14,7 +14,7 @@ use Rattle.laws.specs.Tests.{both-left, both-right}
 use Rattle.grammar.specs.declared.Verdict.{Verdict}
 use Rattle.grammar.specs.declared.Verdict.the-variants.{Passed, Size, Field, Use, Start, Untyped, Long, Work}
 use Rattle.grammar.specs.Words.{ruleCount, nodeCount, literalCount, ruleStart, nodeStart, inheritedCount}
-use Rattle.grammar.specs.Form.{ruleWordOk, nodeWordOk, wordOk, uses, every, sizeOk, andThen, unlessOk, refusedAt, sizeCheck, fieldCheck, useCheck, startCheck, formCheck}
+use Rattle.grammar.specs.Form.{ruleWordOk, nodeWordOk, wordOk, uses, every, sizeOk, followedBy, unlessOk, refusedAt, sizeCheck, fieldCheck, useCheck, startCheck, tableCheck}
 
 -- ════ Checks that passed ════
 
@@ -32,15 +32,15 @@ Refused Work = Unit {0}
 pub not-passed : {A : Type 0} (v : Verdict) → Refused v → v ≡ Passed → A
 not-passed v refused e = absurd (subst Refused e refused)
 
-pub andThen-passed : (v w : Verdict) → andThen v w ≡ Passed → (v ≡ Passed) × (w ≡ Passed)
-andThen-passed Passed w e = (refl, e)
-andThen-passed Size w e = not-passed Size tt e
-andThen-passed (Field i) w e = not-passed (Field i) tt e
-andThen-passed (Use k) w e = not-passed (Use k) tt e
-andThen-passed Start w e = not-passed Start tt e
-andThen-passed (Untyped r) w e = not-passed (Untyped r) tt e
-andThen-passed Long w e = not-passed Long tt e
-andThen-passed Work w e = not-passed Work tt e
+pub followedBy-passed : (v w : Verdict) → followedBy v w ≡ Passed → (v ≡ Passed) × (w ≡ Passed)
+followedBy-passed Passed w e = (refl, e)
+followedBy-passed Size w e = not-passed Size tt e
+followedBy-passed (Field i) w e = not-passed (Field i) tt e
+followedBy-passed (Use k) w e = not-passed (Use k) tt e
+followedBy-passed Start w e = not-passed Start tt e
+followedBy-passed (Untyped r) w e = not-passed (Untyped r) tt e
+followedBy-passed Long w e = not-passed Long tt e
+followedBy-passed Work w e = not-passed Work tt e
 
 pub unlessOk-passed : (b : Bool) (v : Verdict) → Refused v → unlessOk b v ≡ Passed → b ≡ true
 unlessOk-passed true v refused e = refl
@@ -57,13 +57,13 @@ pub record SoundTable (words literals : List ℕ) : Type 0 where
   pub field : fieldCheck words ≡ Passed
 
 module _ (words literals : List ℕ) where
-  module _ (passed : formCheck words literals ≡ Passed) where
+  module _ (passed : tableCheck words literals ≡ Passed) where
     checks-passed : (sizeCheck words literals ≡ Passed) × (fieldCheck words ≡ Passed) × (useCheck words ≡ Passed) × (startCheck words ≡ Passed)
-    unfolding formCheck
+    unfolding tableCheck
     checks-passed =
-        let a = andThen-passed (sizeCheck words literals) (andThen (fieldCheck words) (andThen (useCheck words) (startCheck words))) passed in
-        let b = andThen-passed (fieldCheck words) (andThen (useCheck words) (startCheck words)) (a .1) in
-        let c = andThen-passed (useCheck words) (startCheck words) (b .1) in
+        let a = followedBy-passed (sizeCheck words literals) (followedBy (fieldCheck words) (followedBy (useCheck words) (startCheck words))) passed in
+        let b = followedBy-passed (fieldCheck words) (followedBy (useCheck words) (startCheck words)) (a .1) in
+        let c = followedBy-passed (useCheck words) (startCheck words) (b .1) in
         (a .0, b .0, c .0, c .1)
 
     pub sound-of-form : SoundTable words literals

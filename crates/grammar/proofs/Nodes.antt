@@ -1,5 +1,5 @@
 -- What the node records of a sound table hold, by their kinds. Assumes nothing.
-use mathlib.Core.Path.{_≡_, refl, sym, _∙_, subst}
+use mathlib.Core.Path.{_≡_, refl, subst}
 use mathlib.Core.Logic.{_≢_}
 use mathlib.Core.List.{List, [], _∷_}
 use mathlib.Core.Bool.{Bool, true, false, _&&_}
@@ -210,12 +210,6 @@ module _ (words : List ℕ) (k : ℕ) where
   -- The sort of a node is that of its kind, whatever the table
   pub same-sort : SameSort (kindAt words k) (nodeAt words k)
   same-sort = says .0
-
-  pub parsing-node : isParsing (kindAt words k) ≡ true → isParsingNode (nodeAt words k) ≡ true
-  parsing-node e = sym (same-sort .0) ∙ e
-
-  pub expression-node : isExpression (kindAt words k) ≡ true → isExpressionNode (nodeAt words k) ≡ true
-  expression-node e = sym (same-sort .1) ∙ e
 
 -- ════ A sound table ════
 

@@ -9,17 +9,18 @@ use native.Mathlib.Omega.{arith}
 use lib.Dec.{ltb, eqb}
 use lib.ListN.{getD, set, replicate, length-map}
 use borrow.Author.Tests.{ltb-true, eqb-true}
-use Rattle.laws.specs.Tests.{never, both-left, both-right}
+use Rattle.laws.specs.Tests.{never}
 use Rattle.grammar.specs.declared.Ending.{Ending}
 use Rattle.grammar.specs.declared.Ending.the-variants.{Budget, Deep, Stuck, «Fault» as AtFault}
 use Rattle.grammar.specs.declared.Value.{Value}
 use Rattle.grammar.specs.declared.Value.the-variants as Val
 use Rattle.grammar.specs.Tree.{Parsing, empty, terminal, sequence, choice, repeat, unless, call, bind, update, constraint, Rule, Grammar, ruleOf}
-use Rattle.grammar.specs.Types.{Env, provided, andThen, same, exprType, has, haveAll, assign, assignAll, typeOf, startEnv, typedAfter, typedRule}
+use Rattle.laws.specs.Same.{same, same-equal}
+use Rattle.grammar.specs.Types.{Env, typeNumber, typesOf, provided, andThen, exprType, has, haveAll, assign, assignAll, typeOf, startEnv, typedAfter, typedRule}
 use Rattle.grammar.specs.Values.{Evaluated}
 use Rattle.grammar.specs.Run.{Slots, Setting, Tally, counted, Applied, matched, failed, ended, outOfFuel, next, givingBack, onward, withValue, judged, fresh, receive}
 use Rattle.grammar.specs.Run.{messagePart, byteStands, Application, rounds, Due, fine, noBudget, tooDeep, due, returning, visit, admit, apply}
-use Rattle.grammar.proofs.Typed.{typeNumber, typesOf, Goodly, good, faulty, eval-good, evalAll-good}
+use Rattle.grammar.proofs.Typed.{Goodly, good, faulty, eval-good, evalAll-good}
 
 -- ════ What the small connectives of the type rules say ════
 
@@ -33,16 +34,6 @@ andThen-some (some a) f e = (a, refl, e)
 provided-some : {A : Type 0} (b : Bool) (o : Option A) {a : A} → provided b o ≡ some a → (b ≡ true) × (o ≡ some a)
 provided-some true o e = (refl, e)
 provided-some false o e = no-some e
-
-same-types : (ss ts : List ℕ) → same ss ts ≡ true → ss ≡ ts
-unfolding same
-same-types [] [] e = refl
-same-types [] (t ∷ ts) e = never e
-same-types (s ∷ ss) [] e = never e
-same-types (s ∷ ss) (t ∷ ts) e =
-    let p : s ≡ t = eqb-true s t (both-left (eqb s t) (same ss ts) e) in
-    let q : ss ≡ ts = same-types ss ts (both-right (eqb s t) (same ss ts) e) in
-    cc
 
 -- ════ Slots ════
 
@@ -162,7 +153,7 @@ unchanged : (G : Grammar) (p : Parsing) (env : Env) {env′ : Env} → andThen (
 unchanged G p env e =
     let a = andThen-some (typeOf G env p) (λ env₁. provided (same env env₁) (some env)) e in
     let c = provided-some (same env (a .0)) (some env) (a .2) in
-    (Option·some-injective _ _ (c .1), a .1 ∙ ap {B = Option Env} some (sym (same-types env (a .0) (c .0))))
+    (Option·some-injective _ _ (c .1), a .1 ∙ ap {B = Option Env} some (sym (same-equal env (a .0) (c .0))))
 
 module _ (S : Setting) (typed : TypedGrammar (S .grammar)) where
   abbrev G : Grammar
@@ -182,7 +173,7 @@ module _ (S : Setting) (typed : TypedGrammar (S .grammar)) where
       let b = andThen-some (typeOf G env q) (λ env₂. provided (same (a .0) env₂) (some (a .0))) (a .2) in
       let c = provided-some (same (a .0) (b .0)) (some (a .0)) (b .2) in
       let d : a .0 ≡ env′ = Option·some-injective _ _ (c .1) in
-      let f : a .0 ≡ b .0 = same-types (a .0) (b .0) (c .0) in
+      let f : a .0 ≡ b .0 = same-equal (a .0) (b .0) (c .0) in
       givingBack-sound slots e (next-sound (self (suc depth) p at slots t env (a .0) (a .1) e)
       (λ _ _ _ e₁. sound-matched (e₁ ∙ d))
       (λ _ t₁ _. self (suc depth) q at slots t₁ env env′ (b .1 ∙ ap {B = Option Env} some (sym f ∙ d)) e))

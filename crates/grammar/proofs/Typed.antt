@@ -1,7 +1,7 @@
 -- An expression that the type rules give a type is never STUCK, and its value has that type. An unset slot is one of type 0, so slots and types
 -- agree exactly: `typesOf slots ≡ env`. Assumes nothing.
 use mathlib.Core.Path.{_≡_, refl, sym, _∙_}
-use mathlib.Core.List.{List, [], _∷_, map}
+use mathlib.Core.List.{List, [], _∷_}
 use mathlib.Core.Bool.{Bool, true, false, cond, _&&_}
 use Prim.Native.Nat.{ℕ, _<_}
 use native.Mathlib.Omega.{arith}
@@ -20,19 +20,9 @@ use Rattle.grammar.specs.declared.Span.{Span}
 use Rattle.grammar.specs.declared.Value.{Value}
 use Rattle.grammar.specs.declared.Value.the-variants as Val
 use Rattle.grammar.specs.Tree.{Expr, bool, integer, text, slot, binary, negation}
-use Rattle.grammar.specs.Types.{Env, ifBoth, operatorType, exprType, has, haveAll}
+use Rattle.grammar.specs.Types.{typeNumber, typesOf, ifBoth, operatorType, exprType, has, haveAll}
 use Rattle.grammar.specs.Values.{Evaluated, value, ends, after, wantInteger, wantBool, wantText, integers, present, numberAt, calculated, equal, lookLeft, operate, negated}
 use Rattle.grammar.specs.Run.{Slots, Setting, eval, evalAll}
-
--- the type of a value, 0 where it is absent
-abbrev pub typeNumber : Value → ℕ
-typeNumber Val.Absent = 0
-typeNumber (Val.Bool b) = 1
-typeNumber (Val.Integer z) = 2
-typeNumber (Val.Text s) = 3
-
-abbrev pub typesOf : List Value → Env
-typesOf values = map typeNumber values
 
 -- ════ Types that were given ════
 
@@ -180,8 +170,9 @@ module _ (S : Setting) where
       (lookLeft-good (S .message) (S .literals) op k v (exprType (typesOf slots) f) (rw (← p) at h)
       (after-good (eval-good slots f (typed .1)) (λ w q. rw (← q) (operate-good (S .message) (S .literals) op k v w (rw (← p, ← q) at h))))))
   eval-good slots (negation k e) h =
-      let b = both-wanted 1 1 (exprType (typesOf slots) e) 1 h in
-      rw (b .2) (after-good (eval-good slots e (omega arith)) (λ v p. wantBool-good k v (p ∙ b .0) (λ _. good refl)))
+      let c = chosen (eqb (exprType (typesOf slots) e) 1) 1 h in
+      let is : exprType (typesOf slots) e ≡ 1 = eqb-true (exprType (typesOf slots) e) 1 (c .0) in
+      rw (c .1) (after-good (eval-good slots e (omega arith)) (λ v p. wantBool-good k v (p ∙ is) (λ _. good refl)))
 
   -- Expressions that have all their types give values of those types
   pub evalAll-good : (slots : Slots) (es : List Expr) (ts : List ℕ) → haveAll (typesOf slots) es ts ≡ true → Goodly (OfTypes ts) (evalAll S slots es)

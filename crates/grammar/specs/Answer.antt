@@ -15,7 +15,7 @@ use Rattle.grammar.specs.declared.Mode.{Mode}
 use Rattle.grammar.specs.declared.Mode.the-variants.{Bench, Display}
 use Rattle.grammar.specs.Numbers.{DONE, SIZE, FIELD, USE, START, TYPE, LONG, WORK, NOMATCH, BUDGET, DEEP, STUCK, FAULT}
 use Rattle.grammar.specs.Tree.{ruleOf, grammarOf}
-use Rattle.grammar.specs.Form.{andThen, unlessOk, refusedAt, formCheck}
+use Rattle.grammar.specs.Form.{followedBy, unlessOk, refusedAt, tableCheck}
 use Rattle.grammar.specs.Types.{untyped}
 use Rattle.grammar.specs.Run.{Setting, Applied, matched, failed, ended, outOfFuel, onward, withValue, evalAll, fresh, apply}
 
@@ -63,18 +63,18 @@ typeRules words = refusedAt Untyped (untyped (grammarOf words))
 
 -- the type check's answer: 1 to 5, or passed
 unfoldable pub typeCheck : List ℕ → List ℕ → Verdict
-typeCheck words literals = andThen (formCheck words literals) (typeRules words)
+typeCheck words literals = followedBy (tableCheck words literals) (typeRules words)
 
 -- 'then 5 (type check and display run only)'
-abbrev pub tableCheck : Mode → List ℕ → List ℕ → Verdict
-tableCheck Bench words literals = formCheck words literals
-tableCheck Display words literals = typeCheck words literals
+abbrev pub checkFor : Mode → List ℕ → List ℕ → Verdict
+checkFor Bench words literals = tableCheck words literals
+checkFor Display words literals = typeCheck words literals
 
 -- 'Checks go 1, 2, 3, 4, then 5, 6, 7, then the run'
 unfoldable pub check : Mode → List ℕ → List ℕ → (messageLength workLength : ℕ) → Verdict
 check mode words literals messageLength workLength =
-    andThen (tableCheck mode words literals)
-    (andThen (unlessOk (leb messageLength 65535) Long) (unlessOk (leb workWords workLength) Work))
+    followedBy (checkFor mode words literals)
+    (followedBy (unlessOk (leb messageLength 65535) Long) (unlessOk (leb workWords workLength) Work))
 
 -- ════ The run ════
 

@@ -1,4 +1,4 @@
--- The form checks SIZE, FIELD, USE, START (document 01, 'Words of a table' and 'Numbers that come back'). Assumes nothing.
+-- The table check: SIZE, FIELD, USE, START (document 01, 'Words of a table' and 'Numbers that come back'). Assumes nothing.
 use mathlib.Core.List.{List, [], _∷_}
 use mathlib.Core.Bool.{Bool, true, false, cond, _&&_, _||_}
 use mathlib.Core.Option.{Option, none, some}
@@ -185,18 +185,18 @@ module _ (words : List ℕ) where
   unfoldable pub uses : ℕ → ℕ
   uses k = howMany (wordUses k) 3 (length words - 3)
 
--- ════ The form check ════
+-- ════ The table check ════
 
 -- a check comes after another
-abbrev pub andThen : Verdict → Verdict → Verdict
-andThen Passed later = later
-andThen Size later = Size
-andThen (Field i) later = Field i
-andThen (Use k) later = Use k
-andThen Start later = Start
-andThen (Untyped r) later = Untyped r
-andThen Long later = Long
-andThen Work later = Work
+abbrev pub followedBy : Verdict → Verdict → Verdict
+followedBy Passed later = later
+followedBy Size later = Size
+followedBy (Field i) later = Field i
+followedBy (Use k) later = Use k
+followedBy Start later = Start
+followedBy (Untyped r) later = Untyped r
+followedBy Long later = Long
+followedBy Work later = Work
 
 abbrev pub unlessOk : Bool → Verdict → Verdict
 unlessOk true refusal = Passed
@@ -238,5 +238,5 @@ abbrev pub startCheck : List ℕ → Verdict
 startCheck words = unlessOk (eqb (inheritedCount words 0) 0) Start
 
 -- 'Checks go 1, 2, 3, 4'
-unfoldable pub formCheck : List ℕ → List ℕ → Verdict
-formCheck words literals = andThen (sizeCheck words literals) (andThen (fieldCheck words) (andThen (useCheck words) (startCheck words)))
+unfoldable pub tableCheck : List ℕ → List ℕ → Verdict
+tableCheck words literals = followedBy (sizeCheck words literals) (followedBy (fieldCheck words) (followedBy (useCheck words) (startCheck words)))

@@ -6,3 +6,4 @@ pub mod Types
 pub mod Values
 pub mod Run
 pub mod Answer
+pub mod Demand

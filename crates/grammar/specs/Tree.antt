@@ -65,7 +65,7 @@ abbrev pub four : ℕ → ℕ → ℕ → ℕ → ℕ → List ℕ
 four n a b c d = take n (a ∷ b ∷ c ∷ d ∷ [])
 
 -- What a node stands for, from the trees of its parts. A node that is no expression stands for `false` where an expression is wanted,
--- and one that is no parsing node for `empty` where a parsing node is: the form check lets no such table through.
+-- and one that is no parsing node for `empty` where a parsing node is: the table check lets no such table through.
 unfoldable pub exprOf : (ℕ → Expr) → ℕ → Node → Expr
 exprOf part k N.Unknown = bool k false
 exprOf part k N.Empty = bool k false

@@ -1,20 +1,33 @@
 -- Type rules (document 01, "Type rules"). A type is 1 Bool, 2 Integer or 3 Text; 0 stands for no type.
 -- `Env` has the type of each of a rule's sixteen slots, 0 where the slot is unset. Assumes nothing.
-use mathlib.Core.List.{List, [], _∷_, _++_}
+use mathlib.Core.List.{List, [], _∷_, _++_, map}
 use mathlib.Core.Bool.{Bool, true, false, cond, _&&_, _||_}
 use mathlib.Core.Option.{Option, none, some}
 use Prim.Native.Nat.{ℕ, _-_}
 use lib.Dec.{ltb, eqb}
 use lib.ListN.{getD, set, length, replicate}
 use Rattle.laws.specs.Counting.{smallestFailing}
+use Rattle.laws.specs.Same.{same}
 use Rattle.grammar.specs.declared.Operator.{Operator}
 use Rattle.grammar.specs.declared.Operator.the-variants.{Calculate, Equal, Greater, And, Or}
+use Rattle.grammar.specs.declared.Value.{Value}
+use Rattle.grammar.specs.declared.Value.the-variants as Val
 use Rattle.grammar.specs.Tree.{Expr, bool, integer, text, slot, binary, negation}
 use Rattle.grammar.specs.Tree.{Parsing, empty, terminal, sequence, choice, repeat, unless, call, bind, update, constraint}
 use Rattle.grammar.specs.Tree.{Rule, Grammar, ruleOf}
 
 abbrev pub Env : Type 0
 Env = List ℕ
+
+-- 'Types: 1 Bool, 2 Integer, 3 Text': the type of a value, and the types of a run's slots
+abbrev pub typeNumber : Value → ℕ
+typeNumber Val.Absent = 0
+typeNumber (Val.Bool b) = 1
+typeNumber (Val.Integer z) = 2
+typeNumber (Val.Text s) = 3
+
+abbrev pub typesOf : List Value → Env
+typesOf values = map typeNumber values
 
 -- Two small connectives: what follows a test that passes, and what follows a step that gives something
 abbrev pub provided : {A : Type 0} → Bool → Option A → Option A
@@ -24,13 +37,6 @@ provided false o = none
 abbrev pub andThen : {A B : Type 0} → Option A → (A → Option B) → Option B
 andThen none f = none
 andThen (some a) f = f a
-
--- two lists of types are the same
-unfoldable pub same : List ℕ → List ℕ → Bool
-same [] [] = true
-same [] (t ∷ ts) = false
-same (s ∷ ss) [] = false
-same (s ∷ ss) (t ∷ ts) = eqb s t && same ss ts
 
 -- 'Add, subtract, multiply, divide take Integers; greater takes Integers, gives Bool; equal takes two of one type; and, or, not take Bools'
 abbrev pub ifBoth : (wanted given : ℕ) → ℕ → ℕ → ℕ
@@ -43,6 +49,9 @@ operatorType Greater s t = ifBoth 2 1 s t
 operatorType And s t = ifBoth 1 1 s t
 operatorType Or s t = ifBoth 1 1 s t
 
+abbrev pub negationType : ℕ → ℕ
+negationType t = cond (eqb t 1) 1 0
+
 -- the type of an expression, 0 where it has none; 'an unset slot has no type'
 unfoldable pub exprType : Env → Expr → ℕ
 exprType env (bool k b) = 1
@@ -50,7 +59,7 @@ exprType env (integer k z) = 2
 exprType env (text k start len) = 3
 exprType env (slot k s) = getD env s 0
 exprType env (binary k op e f) = operatorType op (exprType env e) (exprType env f)
-exprType env (negation k e) = ifBoth 1 1 (exprType env e) 1
+exprType env (negation k e) = negationType (exprType env e)
 
 -- the expression has the type t
 unfoldable pub has : Env → Expr → ℕ → Bool

@@ -7,6 +7,7 @@ use lib.Dec.{ltb, leb, eqb}
 use lib.IntN.{ℤ, pos, negsuc, _+ℤ_, _-ℤ_, _*ℤ_}
 use lib.Signed.{mag, ltZ, quotZ}
 use lib.ListN.{length, take, drop}
+use Rattle.laws.specs.Same.{same}
 use Rattle.grammar.specs.declared.Arithmetic.{Arithmetic}
 use Rattle.grammar.specs.declared.Arithmetic.the-variants.{Add, Subtract, Multiply, Divide}
 use Rattle.grammar.specs.declared.Operator.{Operator}
@@ -60,15 +61,9 @@ textBytes message literals (Val.Bool b) = []
 textBytes message literals (Val.Integer z) = []
 textBytes message literals (Val.Text s) = spanBytes message literals s
 
-unfoldable pub sameBytes : List ℕ → List ℕ → Bool
-sameBytes [] [] = true
-sameBytes [] (b ∷ bs) = false
-sameBytes (a ∷ as₁) [] = false
-sameBytes (a ∷ as₁) (b ∷ bs) = eqb a b && sameBytes as₁ bs
-
 -- 'Two Texts are equal when their bytes are the same, wherever they stand'
 unfoldable pub sameTexts : (message literals : List ℕ) → Span → Span → Bool
-sameTexts message literals s t = sameBytes (spanBytes message literals s) (spanBytes message literals t)
+sameTexts message literals s t = same (spanBytes message literals s) (spanBytes message literals t)
 
 -- ════ What an expression gives ════
 

@@ -21,7 +21,8 @@ use Rattle.text.proofs.Pairs.{pairs-reads}
 use Rattle.listing.specs.declared.reader.Lines.the-variants as L
 use Rattle.listing.specs.declared.reader.Head.the-variants as H
 use Rattle.listing.specs.Listing.{rulesKey, nodesKey, literalsKey, ruleKey, nodeKey, ending, numbers, line, recordLines, literalsLine}
-use Rattle.listing.specs.Reading.{within, numbersAt, lineAt, linesAt, countAt, literalsAt, headAt, bodyAt}
+use Rattle.laws.specs.Range.{within}
+use Rattle.listing.specs.Reading.{numbersAt, lineAt, linesAt, countAt, literalsAt, headAt, bodyAt}
 
 ending-low : (k : ℕ) → ending k < 48
 unfolding ending

@@ -24,7 +24,8 @@ use Rattle.listing.specs.Listing.{ruleKey, nodeKey, recordLines, line, h
 use Rattle.listing.specs.Reading.{headAt, bodyAt, onHead, onLines, Filled, fill, refused, readBody, readRest, readFrom}
 use Rattle.listing.specs.Writing.{write, written}
 use Rattle.listing.specs.Plain.{Listed, AcceptedExactly}
-use Rattle.listing.proofs.Size.{Sized, within-right, size-facts, size-right}
+use Rattle.laws.specs.Range.{within-right}
+use Rattle.table.proofs.Size.{Sized, size-facts, size-right}
 use Rattle.listing.proofs.Whole.{head-found, body-found}
 use Rattle.listing.proofs.Back.{head-back, body-back}
 

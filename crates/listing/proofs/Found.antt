@@ -23,8 +23,8 @@ use Rattle.text.proofs.Pairs.{pairs-stand}
 use Rattle.listing.specs.declared.reader.Lines.{Lines}
 use Rattle.listing.specs.declared.reader.Lines.the-variants as L
 use Rattle.listing.specs.Listing.{literalsKey, ending, numbers, line, recordLines, literalsLine}
-use Rattle.listing.specs.Reading.{within, numberWithin, pairsWithin, decimalAt, keyAt, numbersAt, lineAt, linesAt, countAt, literalsAt}
-use Rattle.listing.proofs.Size.{within-facts}
+use Rattle.listing.specs.Reading.{numberWithin, pairsWithin, decimalAt, keyAt, numbersAt, lineAt, linesAt, countAt, literalsAt}
+use Rattle.laws.specs.Range.{within, within-facts}
 use Rattle.listing.proofs.Lines.{line-is}
 
 -- bytes of the text say n 16-bit words

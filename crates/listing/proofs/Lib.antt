@@ -1,4 +1,3 @@
-pub mod Size
 pub mod Lines
 pub mod Steps
 pub mod Writes

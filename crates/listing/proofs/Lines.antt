@@ -12,7 +12,7 @@ use Rattle.text.specs.Written.{decimal, hex}
 use Rattle.text.proofs.Decimals.{decimal-length}
 use Rattle.text.proofs.Pairs.{hex-length}
 use Rattle.listing.specs.Listing.{rulesKey, nodesKey, literalsKey, ruleKey, nodeKey, ending, numbers, line, recordLines, literalsLine, headLines, bodyLines, listing}
-use Rattle.listing.proofs.Size.{Sized}
+use Rattle.table.proofs.Size.{Sized}
 
 -- ════ One after another ════
 

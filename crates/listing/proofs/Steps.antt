@@ -20,7 +20,8 @@ use Rattle.listing.specs.declared.reader.Lines.{Lines}
 use Rattle.listing.specs.declared.reader.Lines.the-variants as L
 use Rattle.listing.specs.declared.reader.Head.the-variants as H
 use Rattle.listing.specs.Listing.{rulesKey, nodesKey, literalsKey, ruleKey, ending}
-use Rattle.listing.specs.Reading.{within, numberWithin, pairsWithin, decimalAt, keyAt, numbersAt, lineAt, linesAt, countAt, literalsAt, thirdLine, headAt, ended, nodeLinesAt, bodyAt}
+use Rattle.laws.specs.Range.{within}
+use Rattle.listing.specs.Reading.{numberWithin, pairsWithin, decimalAt, keyAt, numbersAt, lineAt, linesAt, countAt, literalsAt, thirdLine, headAt, ended, nodeLinesAt, bodyAt}
 
 module _ (text : List ℕ) where
   -- ════ The decimals of a line ════

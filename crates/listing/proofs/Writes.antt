@@ -14,7 +14,7 @@ use Rattle.text.proofs.Writing.{nothing-stored}
 use Rattle.listing.specs.declared.Writing.the-variants.{Done, Size, Out}
 use Rattle.listing.specs.Listing.{listing}
 use Rattle.listing.specs.Writing.{write, written}
-use Rattle.listing.proofs.Size.{size-facts}
+use Rattle.table.proofs.Size.{size-facts}
 use Rattle.listing.proofs.Lines.{listing-most}
 
 module _ (words literals text : List ℕ) where

@@ -21,6 +21,7 @@ use Rattle.listing.specs.declared.reader.Head.the-variants as H
 use Rattle.listing.specs.declared.Reading.{Reading}
 use Rattle.listing.specs.declared.Reading.the-variants.{Done, Line, Room}
 use Rattle.listing.specs.Listing.{rulesKey, nodesKey, literalsKey, ruleKey, nodeKey, ending}
+use Rattle.laws.specs.Range.{within}
 
 abbrev pub onLines : {A : Type 0} → (ℕ → A) → (ℕ → A) → Lines → A
 onLines wrong at (L.At q) = at q
@@ -31,9 +32,6 @@ onHead wrong is (H.Is rules nodes literals q) = is rules nodes literals q
 onHead wrong is (H.Wrong n) = wrong n
 
 -- 'Head values keep SIZE's ranges, else LINE'
-abbrev pub within : (low high n : ℕ) → Bool
-within low high n = leb low n && leb n high
-
 abbrev pub numberWithin : (low high : ℕ) → Number → Number
 numberWithin low high found = onNumber N.Wrong (λ n q. cond (within low high n) (N.Is n q) N.Wrong) found
 

@@ -5,7 +5,6 @@ ghost use Rattle.listing.specs.Writing.{write, written};
 ghost use Rattle.listing.specs.Reading.{readFrom, read, filled};
 
 mod reader;
-mod sizes;
 mod writer;
 
 use crate::reader::Head;
@@ -29,7 +28,7 @@ pub enum Reading {
 pub fn write(words: &[u16], literals: &[u8], text: &mut [u8]) -> Writing
     ensures { λ r. ⌜ written r (now (text .exit)) ≡ write (now (words .entry)) (now (literals .entry)) (now (text .entry)) ⌝ }
 {
-    if !sizes::size_ok(words, literals.len()) {
+    if !table::sizes::size_ok(words, literals.len()) {
         return Writing::Size;
     }
     let measuring = 0;

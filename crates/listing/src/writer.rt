@@ -6,7 +6,7 @@ ghost use lib.ListN.{length};
 ghost use Rattle.grammar.specs.Form.{sizeOk};
 ghost use Rattle.text.specs.Stored.{Wrote};
 ghost use Rattle.listing.specs.Listing.{ending, numbers, line, recordLines, literalsLine, headLines, bodyLines, listing};
-use crate::sizes::wide;
+use table::sizes::wide;
 
 // What ends a number that so many others follow in its line: "single spaces, each line ended by byte 10".
 pub(crate) fn ending_of(others: usize) -> u8

@@ -17,11 +17,11 @@ use Rattle.grammar.specs.declared.Mode.the-variants.{Bench, Display}
 use Rattle.grammar.specs.Words.{nodeCount, nodeStart, nodes, nodeFor, nodeAt, ruleWord}
 use Rattle.grammar.specs.Tree.{Rule, parsingOf, parsingWith, parsingAt, node, ruleOf, ruleAt, grammarOf}
 use Rattle.grammar.specs.Values.{Evaluated, value, ends}
-use Rattle.grammar.specs.Form.{andThen, unlessOk, formCheck}
+use Rattle.grammar.specs.Form.{followedBy, unlessOk, tableCheck}
 use Rattle.grammar.specs.Run.{Setting, Applied, matched, next, onward, withValue, evalAll, fresh, apply}
 use Rattle.grammar.specs.Answer.{workWords, deepestVisit, settingOf, run, answerOf, endingNumber, zeroed}
-use Rattle.grammar.specs.Answer.{typeRules, typeCheck, tableCheck, check, conclude, answer, leftAfter, workAfter}
-use Rattle.grammar.proofs.Facts.{SoundTable, Sizes, sizes, sound-of-form, andThen-passed, unlessOk-passed}
+use Rattle.grammar.specs.Answer.{typeRules, typeCheck, checkFor, check, conclude, answer, leftAfter, workAfter}
+use Rattle.grammar.proofs.Facts.{SoundTable, Sizes, sizes, sound-of-form, followedBy-passed, unlessOk-passed}
 use Rattle.grammar.proofs.Nodes.{node-holds}
 use Rattle.grammar.proofs.Decode.{parsing-tree, rule-tree}
 use Rattle.frames.specs.Frames.{cleared, slotsIn, unset}
@@ -152,9 +152,9 @@ module _ (words literals message : List ℕ) where
 -- ════ For the functions that run a table ════
 
 module _ (words literals message : List ℕ) (short : Short words) where
-  -- A table that passes the form check, a message that is not LONG, a work area that has W words: the run in words gives the written meaning's answer,
+  -- A table that passes the table check, a message that is not LONG, a work area that has W words: the run in words gives the written meaning's answer,
   -- visits included, and leaves the first W words zero and the others untouched
-  pub ran-is : formCheck words literals ≡ Passed → length message ≤ 65535 → (budget : ℕ) (work : List ℕ) → workWords ≤ length work →
+  pub ran-is : tableCheck words literals ≡ Passed → length message ≤ 65535 → (budget : ℕ) (work : List ℕ) → workWords ≤ length work →
       ran words literals message budget work ≡ recorded (answerOf (run (settingOf words literals message) budget)) (zeroed work)
   unfolding ran
   ran-is passed small budget work room =
@@ -164,10 +164,10 @@ module _ (words literals message : List ℕ) (short : Short words) where
       (answers words literals message (decodes words literals table) start short small budget work room)
       (leaves words literals message (decodes words literals table) start short small budget work room)
 
-  table-form : (mode : Mode) → tableCheck mode words literals ≡ Passed → formCheck words literals ≡ Passed
+  table-form : (mode : Mode) → checkFor mode words literals ≡ Passed → tableCheck words literals ≡ Passed
   unfolding typeCheck
   table-form Bench e = e
-  table-form Display e = andThen-passed (formCheck words literals) (typeRules words) e .0
+  table-form Display e = followedBy-passed (tableCheck words literals) (typeRules words) e .0
 
   -- the same for an entry point: where all checks pass, the run in words gives its whole answer
   pub ran-answers : (mode : Mode) (budget : ℕ) (work : List ℕ) → check mode words literals (length message) (length work) ≡ Passed →
@@ -176,8 +176,8 @@ module _ (words literals message : List ℕ) (short : Short words) where
   ran-answers mode budget work passed =
       let notLong : Verdict = unlessOk (leb (length message) 65535) Long in
       let enoughWork : Verdict = unlessOk (leb workWords (length work)) Work in
-      let a = andThen-passed (tableCheck mode words literals) (andThen notLong enoughWork) passed in
-      let b = andThen-passed notLong enoughWork (a .1) in
+      let a = followedBy-passed (checkFor mode words literals) (followedBy notLong enoughWork) passed in
+      let b = followedBy-passed notLong enoughWork (a .1) in
       let small : length message ≤ 65535 = leb-true (length message) 65535 (unlessOk-passed (leb (length message) 65535) Long tt (b .0)) in
       let room : workWords ≤ length work = leb-true workWords (length work) (unlessOk-passed (leb workWords (length work)) Work tt (b .1)) in
       rw passed (ran-is (table-form mode (a .0)) small budget work room)

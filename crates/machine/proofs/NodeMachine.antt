@@ -11,7 +11,7 @@ use Rattle.grammar.specs.declared.Node.the-variants as N
 use Rattle.grammar.specs.Words.{ruleWord, inheritedCount, returnedCount, nodeAt}
 use Rattle.grammar.specs.Tree.{four, exprAt}
 use Rattle.grammar.specs.Values.{Evaluated}
-use Rattle.grammar.specs.Run.{Slots, Tally, counted, eval, evalAll, matched, failed, withValue, judged, fresh, receive, messagePart, byteStands}
+use Rattle.grammar.specs.Run.{Slots, Tally, eval, evalAll, matched, failed, withValue, judged, fresh, receive, messagePart, byteStands}
 use Rattle.grammar.specs.Answer.{settingOf}
 use Rattle.machine.proofs.StackMachine.{State, entering, matching, failing, resume, withArguments, Moves}
 

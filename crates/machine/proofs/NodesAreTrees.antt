@@ -1,5 +1,5 @@
 -- The machine over node numbers goes step for step with the machine over the trees that they stand for. Assumes nothing but that each node's tree is
--- made of its parts' trees and that calls name rules that there are (`Decodes`): the form check gives both.
+-- made of its parts' trees and that calls name rules that there are (`Decodes`): the table check gives both.
 use mathlib.Core.Path.{_≡_, refl, sym, ap, _∙_}
 use mathlib.Core.Bool.{Bool, true, false, cond}
 use mathlib.Core.List.{List, map}

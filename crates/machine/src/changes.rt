@@ -1,7 +1,7 @@
 // The small changes of a run record.
 ghost use mathlib.Core.Path.{_≡_};
 ghost use Prim.Native.Nat.{_<_};
-ghost use Rattle.machine.specs.Step.{moved, staged, visited, endedAt, consumed, judged};
+ghost use Rattle.machine.specs.Step.{moved, staged, visited, endedAt, judged};
 use crate::Run;
 use crate::Stage;
 use grammar::Ending;

@@ -1,7 +1,7 @@
 // A return to the node of the top frame, whose part has matched or failed. Frame d is the top one.
 ghost use mathlib.Core.Path.{_≡_};
 ghost use Rattle.grammar.specs.Run.{messagePart};
-ghost use Rattle.frames.specs.Frames.{phaseIn, fromIn, written, restored};
+ghost use Rattle.frames.specs.Frames.{phaseIn, fromIn, written};
 ghost use Rattle.machine.specs.declared.Stage.the-variants as S;
 ghost use Rattle.machine.specs.Step.{with, moved, sequenceMatched, choiceFailed, givenBack, returned, matchedIn, failedIn, backMatched, backFailed};
 use crate::Run;

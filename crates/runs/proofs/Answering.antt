@@ -10,7 +10,7 @@ use Rattle.grammar.specs.declared.Answer.{Answer}
 use Rattle.grammar.specs.declared.Mode.{Mode}
 use Rattle.grammar.specs.declared.Verdict.{Verdict}
 use Rattle.grammar.specs.declared.Verdict.the-variants.{Passed, Size, Field, Use, Start, Untyped, Long, Work}
-use Rattle.grammar.specs.Form.{andThen, unlessOk}
+use Rattle.grammar.specs.Form.{followedBy, unlessOk}
 use Rattle.grammar.specs.Answer.{workWords, check, conclude, answer, leftAfter, workAfter}
 use Rattle.frames.specs.Frames.{cleared, unset}
 use Rattle.machine.specs.declared.Run.{Run}
@@ -41,7 +41,7 @@ module _ (words literals message : List ℕ) (budget : ℕ) where
 
 module _ (message work : ℕ) where
   abbrev limitsOf : Verdict
-  limitsOf = andThen (unlessOk (leb message 65535) Long) (unlessOk (leb workWords work) Work)
+  limitsOf = followedBy (unlessOk (leb message 65535) Long) (unlessOk (leb workWords work) Work)
 
   pub limits-long : 65535 < message → Long ≡ limitsOf
   limits-long h = rw (lt-leb message 65535 h)

@@ -7,7 +7,7 @@ use types.Run.{OneOf, miss}
 use Rattle.grammar.specs.declared.Verdict.{Verdict}
 use Rattle.grammar.specs.declared.Verdict.the-variants.{Passed, Size, Field, Use, Start, Untyped, Long, Work}
 use Rattle.grammar.proofs.Verdict.{the-type}
-use Rattle.grammar.specs.Form.{andThen}
+use Rattle.grammar.specs.Form.{followedBy}
 use Rattle.grammar.specs.Answer.{place, refusal}
 use Rattle.machine.specs.Drive.{Ran, recorded}
 use Rattle.runs.specs.Runs.{afterChecks}
@@ -31,7 +31,7 @@ place-other Work h = refl
 abbrev pub refusals : List ℕ
 refusals = 1 ∷ 2 ∷ 3 ∷ 4 ∷ 5 ∷ 6 ∷ 7 ∷ []
 
-pub then-other : (v later : Verdict) → OneOf refusals (tagOf the-type v) → andThen v later ≡ v
+pub then-other : (v later : Verdict) → OneOf refusals (tagOf the-type v) → followedBy v later ≡ v
 then-other Passed later h = absurd (miss refusals 0 tt h)
 then-other Size later h = refl
 then-other (Field i) later h = refl

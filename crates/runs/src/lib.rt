@@ -22,7 +22,7 @@ pub fn bench<'a>(
     ensures leaves { λ _. ⌜ now (work .exit) ≡ workAfter Bench (now (words .entry)) (now (literals .entry)) (now (message .entry)) (now (work .entry)) ⌝ }
 {
     let table = form::check(words, literals);
-    let verdict = limits::and_then(table, limits::limits(message.len(), work.len()));
+    let verdict = limits::followed_by(table, limits::limits(message.len(), work.len()));
     whole::finish(verdict, words, literals, message, budget, work)
 }
 
@@ -38,6 +38,6 @@ pub fn display<'a>(
     ensures leaves { λ _. ⌜ now (work .exit) ≡ workAfter Display (now (words .entry)) (now (literals .entry)) (now (message .entry)) (now (work .entry)) ⌝ }
 {
     let table = typing::type_check(words, literals);
-    let verdict = limits::and_then(table, limits::limits(message.len(), work.len()));
+    let verdict = limits::followed_by(table, limits::limits(message.len(), work.len()));
     whole::finish(verdict, words, literals, message, budget, work)
 }

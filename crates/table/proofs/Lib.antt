@@ -1,2 +1,2 @@
 pub mod Decoding
-pub mod Signed
+pub mod Size

@@ -1,2 +1,3 @@
-// A table: where its records lie, and the checks 1 to 4 of document 01.
+// A table: where its records lie and what stands there, and whether its size is right.
 pub mod records;
+pub mod sizes;

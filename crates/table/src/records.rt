@@ -1,25 +1,12 @@
 // Where the records of a table lie, and what stands there. Only this module knows it; each function answers every number, 0 past the table's end.
 ghost use mathlib.Core.Path.{_≡_};
 ghost use Prim.Native.Nat.{_+_, _*_, _<_, _≤_};
-ghost use Rattle.grammar.specs.Words.{
-  inheritedCount,
-  literalCount,
-  nodeAt,
-  nodeCount,
-  nodeFor,
-  kindAt,
-  nodeWord,
-  returnedCount,
-  ruleCount,
-  ruleStart,
-  ruleWord,
-  signed,
-  word,
-};
+ghost use Rattle.grammar.specs.Words.{inheritedCount, literalCount, nodeAt, nodeCount, kindAt, nodeWord, returnedCount, ruleCount, ruleStart, ruleWord, word};
 ghost use Rattle.table.specs.Fields.{callAt, nodeOfTwo};
 use grammar::Arithmetic;
 use grammar::Node;
 use grammar::Operator;
+use values::words::signed_of;
 
 // Word i, 0 past the end.
 pub fn word_at(words: &[u16], i: usize) -> u16
@@ -119,18 +106,6 @@ pub fn returned_type(words: &[u16], r: u16, i: u16) -> u16
     word_at(words, rule_start(r) + (11 + i as usize))
 }
 
-// "17 Integer (high word, low word, signed 32-bit two's complement)."
-fn integer(high: u16, low: u16) -> i32
-    ensures { λ r. ⌜ r ≡ signed high low ⌝ }
-{
-    let n = high as u32 * 65536 + low as u32;
-    if n < 2147483648 {
-        n as i32
-    } else {
-        (n as i64 - 4294967296) as i32
-    }
-}
-
 // A parsing node that is no call, from its fields a and b.
 fn parsing_node(kind: u16, a: u16, b: u16) -> Node
     requires { ⌜ kind < 16 ⌝ }
@@ -158,7 +133,7 @@ fn expression_node(kind: u16, a: u16, b: u16) -> Node
 {
     match kind {
         16 => Node::Bool(a == 1),
-        17 => Node::Integer(integer(a, b)),
+        17 => Node::Integer(signed_of(a, b)),
         18 => Node::Text(a, b),
         19 => Node::Slot(a),
         20 => Node::Binary(Operator::Calculate(Arithmetic::Add), a, b),

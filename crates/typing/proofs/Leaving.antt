@@ -7,7 +7,8 @@ use borrow.Author.Tests.{le-leb, lt-leb}
 use lib.Dec.{eqb, leb}
 use lib.ListN.{getD, set, length}
 use lib.Seq.{set-out}
-use Rattle.grammar.specs.Types.{Env, provided, andThen, same, assign}
+use Rattle.laws.specs.Same.{same}
+use Rattle.grammar.specs.Types.{Env, provided, andThen, assign}
 use Rattle.typing.specs.declared.slots.Typing.{Typing}
 use Rattle.typing.specs.Left.{left, onto, agreed, receivedOne}
 

@@ -1,6 +1,6 @@
 pub mod Fours
 pub mod Leaving
 pub mod Parts
-pub mod Same
+pub mod Promise
 pub mod Walks
 pub mod Whole

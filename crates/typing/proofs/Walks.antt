@@ -14,7 +14,7 @@ use Rattle.grammar.specs.declared.Node.{Node}
 use Rattle.grammar.specs.declared.Node.the-variants as N
 use Rattle.grammar.specs.Words.{nodeAt}
 use Rattle.grammar.specs.Tree.{Expr, exprAt, exprOf}
-use Rattle.grammar.specs.Types.{Env, exprType, operatorType, ifBoth}
+use Rattle.grammar.specs.Types.{Env, exprType, operatorType, negationType}
 use Rattle.grammar.proofs.Facts.{SoundTable, sound-of-form}
 use Rattle.grammar.proofs.Nodes.{NodeRight, node-holds}
 use Rattle.grammar.proofs.Decode.{expr-tree}
@@ -51,7 +51,7 @@ module _ {words : List ℕ} {k : ℕ} (node : CheckedNode words k) where
     unfolding exprType exprOf
     binary e p q = rw (p, q) (plain e)
 
-    pub negation : {a t : ℕ} → n ≡ N.Negation a → t ≡ exprType env (exprAt words a) → ifBoth 1 1 t 1 ≡ exprType env (exprAt words k)
+    pub negation : {a t : ℕ} → n ≡ N.Negation a → t ≡ exprType env (exprAt words a) → negationType t ≡ exprType env (exprAt words k)
     unfolding exprType exprOf
     negation e p = rw p (plain e)
 

@@ -17,7 +17,7 @@ use Rattle.grammar.proofs.Verdict.{the-type}
 use Rattle.grammar.specs.Words.{nodeCount, ruleCount, returnedCount, ruleWord}
 use Rattle.grammar.specs.Tree.{four, parsingAt, grammarOf, ruleOf, ruleAt}
 use Rattle.grammar.specs.Types.{Env, startEnv, typeOf, typedAfter, typedRule, untyped}
-use Rattle.grammar.specs.Form.{andThen}
+use Rattle.grammar.specs.Form.{followedBy}
 use Rattle.grammar.specs.Answer.{typeRules}
 use Rattle.grammar.proofs.Records.{four-places, rule-right}
 use Rattle.grammar.proofs.Decode.{rule-tree, grammar-length}
@@ -100,7 +100,7 @@ module _ (words : List ℕ) where
 abbrev refusals : List ℕ
 refusals = 1 ∷ 2 ∷ 3 ∷ 4 ∷ 5 ∷ 6 ∷ 7 ∷ []
 
-pub refusal-stands : (v later : Verdict) → OneOf refusals (tagOf the-type v) → v ≡ andThen v later
+pub refusal-stands : (v later : Verdict) → OneOf refusals (tagOf the-type v) → v ≡ followedBy v later
 refusal-stands Passed later h = absurd (miss refusals 0 tt h)
 refusal-stands Size later h = refl
 refusal-stands (Field i) later h = refl

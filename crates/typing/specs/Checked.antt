@@ -5,12 +5,12 @@ use lib.ListN.{getD}
 use Prim.Native.Nat.{ℕ, _<_}
 use Rattle.grammar.specs.declared.Verdict.the-variants.{Passed}
 use Rattle.grammar.specs.Words.{nodeCount, ruleCount}
-use Rattle.grammar.specs.Form.{formCheck}
+use Rattle.grammar.specs.Form.{tableCheck}
 
 -- the words of a table that has passed the checks 1 to 4
 pub record Checked (words : List ℕ) : Type 0 where
   pub literals : List ℕ
-  pub passed : formCheck words literals ≡ Passed
+  pub passed : tableCheck words literals ≡ Passed
 
 -- a node of such a table
 pub record CheckedNode (words : List ℕ) (k : ℕ) : Type 0 where

@@ -1,13 +1,14 @@
 -- What the code's steps make of `Typing`, the record that stands for what a parsing node leaves of the slots' types. Assumes nothing.
-use mathlib.Core.List.{List, [], _∷_, map}
-use mathlib.Core.Bool.{Bool, true, false, cond, _&&_}
+use mathlib.Core.List.{List, [], map}
+use mathlib.Core.Bool.{Bool, true, false, cond}
 use mathlib.Core.Option.{Option, none, some}
 use Prim.Native.Nat.{ℕ}
 use lib.Dec.{ltb, leb, eqb}
-use lib.ListN.{getD, replicate}
+use lib.ListN.{replicate}
+use Rattle.laws.specs.Same.{same}
 use Rattle.grammar.specs.Words.{inheritedCount, returnedCount, ruleWord}
 use Rattle.grammar.specs.Tree.{Expr, exprAt, four}
-use Rattle.grammar.specs.Types.{Env, provided, same, has, haveAll, assign, assignAll}
+use Rattle.grammar.specs.Types.{Env, provided, has, haveAll, assign, assignAll}
 use Rattle.typing.specs.declared.slots.Typing.{Typing}
 
 -- what a node leaves, as code has it: all slots unset where it breaks a rule

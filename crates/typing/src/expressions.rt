@@ -3,7 +3,7 @@ ghost use mathlib.Core.Path.{_≡_};
 ghost use Rattle.grammar.specs.declared.Operator.the-variants.{Equal};
 ghost use mathlib.Core.List.{map};
 ghost use Rattle.grammar.specs.Tree.{exprAt, four};
-ghost use Rattle.grammar.specs.Types.{exprType, has, haveAll, ifBoth, operatorType};
+ghost use Rattle.grammar.specs.Types.{exprType, has, haveAll, ifBoth, operatorType, negationType};
 ghost use Rattle.typing.specs.Checked.{CheckedNode, CheckedPlace, CheckedPlaces};
 ghost use Rattle.typing.specs.Left.{placeTyped};
 use crate::slots::slot_type;
@@ -44,6 +44,13 @@ fn operator_type(op: Operator, s: u16, t: u16) -> u16
     }
 }
 
+// "not take Bools"
+fn negation_type(t: u16) -> u16
+    ensures { λ r. ⌜ r ≡ negationType t ⌝ }
+{
+    if t == 1 { 1 } else { 0 }
+}
+
 // The type of node k; a node that is no expression stands for a Bool, and no table that passes the check has one here.
 pub(crate) fn expression_type(words: &[u16], slots: [u16; 16], k: u16) -> u16
     requires { ⌜ CheckedNode (now words) k ⌝ }
@@ -61,7 +68,7 @@ pub(crate) fn expression_type(words: &[u16], slots: [u16; 16], k: u16) -> u16
         }
         Node::Negation(a) => {
             let t = expression_type(words, slots, a);
-            both(1, 1, t, 1)
+            negation_type(t)
         }
         _ => 1,
     }

@@ -55,13 +55,11 @@ fn agreeing(first: Typing, second: Typing) -> Typing
 fn unchanged(slots: [u16; 16], part: Typing) -> Typing
     ensures { λ r. ⌜ r ≡ agreed (left (some slots)) part ⌝ }
 {
-    agreeing(
-        Typing {
-            keeps: true,
-            slots: slots,
-        },
-        part,
-    )
+    let start = Typing {
+        keeps: true,
+        slots: slots,
+    };
+    agreeing(start, part)
 }
 
 // "Bind: judged after its part; the slot is then unset and becomes Text, or is Text already."

@@ -4,7 +4,8 @@ ghost use mathlib.Core.Option.{none};
 ghost use mathlib.Core.Bool.{_||_};
 ghost use lib.Dec.{eqb};
 ghost use lib.ListN.{getD};
-ghost use Rattle.grammar.specs.Types.{same, assign};
+ghost use Rattle.laws.specs.Same.{same};
+ghost use Rattle.grammar.specs.Types.{assign};
 ghost use Rattle.typing.specs.Left.{left};
 
 // What a parsing node leaves: whether it keeps the type rules, and the slots' types; all unset where it breaks one.

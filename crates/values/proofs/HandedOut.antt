@@ -1,14 +1,11 @@
 -- The part that a Text's bytes are handed out as: its bytes and its place, and how equality of bytes goes along two slices. Assumes nothing.
-use mathlib.Core.Path.{_≡_, refl, ap}
-use mathlib.Core.Bool.{Bool, true, false, _&&_}
+use mathlib.Core.Path.{_≡_, refl}
+use mathlib.Core.Bool.{Bool, true, false}
 use mathlib.Core.List.{List, [], _∷_}
-use Prim.Native.Nat.{ℕ, suc, _+_, _-_, _≤_, _<_}
-use native.Mathlib.Numerals.{add-one}
+use Prim.Native.Nat.{ℕ, _+_, _-_, _≤_, _<_}
 use native.Mathlib.Omega.{arith}
 use borrow.Author.Tests.{le-leb, lt-leb}
-use lib.Dec.{eqb}
-use lib.ListN.{length, take, drop, getD, drop-of-length-le}
-use lib.Seq.{drop-cons}
+use lib.ListN.{length, take, drop}
 use types.Run.{OneOf, miss}
 use denote.Enum.Declared.{tagOf}
 use denote.Ref.{RefT, now, ptr}
@@ -16,7 +13,7 @@ use Rattle.grammar.proofs.Value.{the-type}
 use Rattle.grammar.specs.declared.Span.{Span}
 use Rattle.grammar.specs.declared.Value.{Value}
 use Rattle.grammar.specs.declared.Value.the-variants as Val
-use Rattle.grammar.specs.Values.{spanBytes, textBytes, sameBytes}
+use Rattle.grammar.specs.Values.{spanBytes, textBytes}
 use Rattle.values.specs.Texts.{into, spanPlace, textPlace}
 
 -- these bytes at this place are what `text_bytes` owes
@@ -57,26 +54,3 @@ no-text m l Val.Absent h = (refl, refl)
 no-text m l (Val.Bool b) h = (refl, refl)
 no-text m l (Val.Integer n) h = (refl, refl)
 no-text m l (Val.Text s) h = absurd (miss (0 ∷ 1 ∷ 2 ∷ []) 3 tt h)
-
--- ════ The same bytes ════
-
-no-both : (b : Bool) {c : Bool} → false ≡ c → false ≡ b && c
-no-both true h = h
-no-both false h = refl
-
--- slices of two lengths
-pub unlike : (x y : List ℕ) → (length x ≡ length y → ⊥) → false ≡ sameBytes x y
-unfolding sameBytes
-unlike [] [] h = absurd (h refl)
-unlike [] (b ∷ y) h = refl
-unlike (a ∷ x) [] h = refl
-unlike (a ∷ x) (b ∷ y) h = no-both (eqb a b) (unlike x y (λ e. h (ap suc e)))
-
--- one byte more
-pub byte-more : (x y : List ℕ) (i : ℕ) → i < length x → i < length y → sameBytes (drop i x) (drop i y) ≡ eqb (getD x i 0) (getD y i 0) && sameBytes (drop (i + 1) x) (drop (i + 1) y)
-unfolding sameBytes
-byte-more x y i p q = rw (drop-cons x i 0, drop-cons y i 0, add-one)
-
-pub no-more : (x y : List ℕ) (i : ℕ) → length x ≤ i → length y ≤ i → true ≡ sameBytes (drop i x) (drop i y)
-unfolding sameBytes
-no-more x y i p q = rw (drop-of-length-le x, drop-of-length-le y)

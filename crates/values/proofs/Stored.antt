@@ -1,24 +1,13 @@
 -- A value and its two words: there and back, and the range they keep. Assumes nothing.
 use mathlib.Core.Path.{_≡_, refl, ap}
 use mathlib.Core.Bool.{Bool, true, false, cond}
-use mathlib.Core.List.{List}
 use Prim.Native.Nat.{ℕ, zero, suc, _+_, _*_, _/_, _%_, _<_}
 use native.Mathlib.Omega.{arith}
-use lib.Dec.{eqb}
-use mir.Syntax.{w32}
-use mir.Val.{Val, Fits}
-use denote.Enum.Declared.{row}
-use denote.Enum.Laws.{owed}
-use denote.Laws.{Is}
-use denote.Struct.Laws as struct
-use Rattle.grammar.proofs.Span as span
-use Rattle.grammar.proofs.Span.Laws as span-laws
-use Rattle.grammar.proofs.Value.{the-type}
-use Rattle.grammar.proofs.Value.Laws.{the-laws}
+use mir.Val.{Val}
 use Rattle.grammar.specs.declared.Value.{Value}
 use Rattle.grammar.specs.declared.Value.the-variants as Val
 use Rattle.values.specs.Slots.{tagOf, payloadOf, textOf, valueOf, InRange, absent, bool, integer, text}
-use Rattle.values.proofs.Complement.{integer-word, integer-fits}
+use Rattle.values.proofs.Complement.{integer-word}
 
 -- a part's start and length, out of their payload
 text-again : (literal : Bool) (start length : ℕ) → length < 65536 → textOf literal (start * 65536 + length) ≡ Val.Text (record { literal = literal; start = start; length = length })
@@ -40,23 +29,6 @@ stored (text {s} p q) = part (s .literal) (s .start) (s .length) q
     part true start length h = text-again true start length h
     part false start length h = text-again false start length h
 
-text-in-range : (literal : Bool) {payload : ℕ} → Fits w32 payload → InRange (textOf literal payload)
-text-in-range literal {payload} f =
-    let h = f .fits in
-    let p : payload / 65536 < 65536 = omega arith in
-    let q : payload % 65536 < 65536 = omega arith in
-    text p q
-
--- every pair of words stands for a value in range
-pub value-in-range : (tag : ℕ) {payload : ℕ} → Fits w32 payload → InRange (valueOf tag payload)
-unfolding valueOf
-value-in-range zero f = absent
-value-in-range (suc zero) {payload} f = bool (eqb payload 1)
-value-in-range (suc (suc zero)) {payload} f = integer (integer-fits payload f)
-value-in-range (suc (suc (suc zero))) f = text-in-range false f
-value-in-range (suc (suc (suc (suc zero)))) f = text-in-range true f
-value-in-range (suc (suc (suc (suc (suc tag))))) f = absent
-
 -- a tag that has no line
 pub no-line : (tag payload : ℕ) → (tag ≡ 1 → ⊥) → (tag ≡ 2 → ⊥) → (tag ≡ 3 → ⊥) → (tag ≡ 4 → ⊥) → Val.Absent ≡ valueOf tag payload
 unfolding valueOf
@@ -66,12 +38,3 @@ no-line (suc (suc zero)) payload a b c d = absurd (b refl)
 no-line (suc (suc (suc zero))) payload a b c d = absurd (c refl)
 no-line (suc (suc (suc (suc zero)))) payload a b c d = absurd (d refl)
 no-line (suc (suc (suc (suc (suc tag))))) payload a b c d = refl
-
--- a value that code holds is in range
-pub held : (v : Value) (vs : List Val) → Is (row the-type) v vs → InRange v
-held Val.Absent vs h = absent
-held (Val.Bool b) vs h = bool b
-held (Val.Integer z) vs h = integer (record { sfits = owed the-type the-laws (Val.Integer z) vs h .0 .1 })
-held (Val.Text s) vs h =
-    let g = struct.owed span.the-type span-laws.the-laws s _ (owed the-type the-laws (Val.Text s) vs h .0) in
-    text (g .1 .0 .1) (g .1 .1 .0 .1)

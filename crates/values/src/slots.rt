@@ -1,6 +1,6 @@
 // Values in a lent area of words: two words a slot, a tag and a payload.
 ghost use mathlib.Core.Path.{_≡_};
-ghost use lib.ListN.{getD, set};
+ghost use lib.ListN.{set};
 ghost use Rattle.values.specs.Slots.{tagOf, payloadOf, textOf, valueOf, slotAt, withSlot};
 use grammar::Span;
 use grammar::Value;
@@ -62,7 +62,7 @@ pub fn read_slot(slots: &[u32], s: u16) -> Value
 }
 
 // A word past the end isn't written.
-fn write_word(words: &mut [u32], at: usize, word: u32)
+pub fn write_word(words: &mut [u32], at: usize, word: u32)
     ensures { λ _. ⌜ now (words .exit) ≡ set (now (words .entry)) at word ⌝ }
 {
     if at < words.len() {

@@ -1,7 +1,8 @@
 // The bytes of a Text, where it stands.
 ghost use mathlib.Core.Path.{_≡_};
 ghost use denote.Ref.{ptr};
-ghost use Rattle.grammar.specs.Values.{textBytes, sameBytes, sameTexts};
+ghost use Rattle.laws.specs.Same.{same};
+ghost use Rattle.grammar.specs.Values.{textBytes, sameTexts};
 ghost use Rattle.values.specs.Texts.{textPlace};
 use grammar::Span;
 use grammar::Value;
@@ -33,7 +34,7 @@ pub fn text_bytes<'a>(message: &'a [u8], literals: &'a [u8], value: Value) -> &'
 }
 
 fn same_bytes(x: &[u8], y: &[u8]) -> bool
-    ensures { λ r. ⌜ r ≡ sameBytes (now (x .entry)) (now (y .entry)) ⌝ }
+    ensures { λ r. ⌜ r ≡ same (now (x .entry)) (now (y .entry)) ⌝ }
 {
     if x.len() != y.len() {
         return false;

@@ -2,11 +2,6 @@ use Rattle.console_text.proofs.Responding.{take-length, counted, respon
 use borrow.Author.Needs.{needs}
 use Rattle.console_text.proofs.answer_lines.Statement.{statement}
 use Rattle.console_text.proofs.answer_lines.Tie as tie
-use Rattle.console_text.proofs.answer_lines.Reads as reads
-use Rattle.console_text.proofs.answer_lines.Lts as lts
-use Rattle.console_text.proofs.print_line.Reads as print-line-reads
-use Rattle.console_text.proofs.print_run.Reads as print-run-reads
-use Rattle.console_text.proofs.request.read_request.Reads as read-request-reads
 
 -- src/lib.rt:110:11
 read-request-requires : tie.Need-read-request-requires

@@ -3,8 +3,6 @@ use Rattle.grammar.specs.Form.{every}
 use Rattle.console_text.specs.Lent.{enough}
 use Rattle.console_text.proofs.lent_enough.Statement.{statement}
 use Rattle.console_text.proofs.lent_enough.Tie as tie
-use Rattle.console_text.proofs.lent_enough.Reads as reads
-use Rattle.console_text.proofs.lent_enough.Lts as lts
 
 -- src/lib.rt:30:9
 returns : tie.Need-returns

@@ -4,10 +4,6 @@ use Rattle.console_text.specs.Printed.{answerLines}
 use borrow.Author.Needs.{needs}
 use Rattle.console_text.proofs.print_run.Statement.{statement}
 use Rattle.console_text.proofs.print_run.Tie as tie
-use Rattle.console_text.proofs.print_run.Reads as reads
-use Rattle.console_text.proofs.print_run.Lts as lts
-use Rattle.console_text.proofs.lines.put_answer.Reads as put-answer-reads
-use Rattle.console_text.proofs.run.Reads as run-reads
 
 -- src/lib.rt:76:9
 run-requires : tie.Need-run-requires

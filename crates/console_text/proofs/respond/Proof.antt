@@ -6,11 +6,6 @@ use Rattle.console_text.proofs.Putting.{input-line}
 use borrow.Author.Needs.{needs}
 use Rattle.console_text.proofs.respond.Statement.{statement}
 use Rattle.console_text.proofs.respond.Tie as tie
-use Rattle.console_text.proofs.respond.Reads as reads
-use Rattle.console_text.proofs.respond.Lts as lts
-use Rattle.console_text.proofs.answer_lines.Reads as answer-lines-reads
-use Rattle.console_text.proofs.lent_enough.Reads as lent-enough-reads
-use Rattle.text.proofs.put_bytes.Reads as put-bytes-reads
 
 -- src/lib.rt:135:9
 lent-enough-requires : tie.Need-lent-enough-requires

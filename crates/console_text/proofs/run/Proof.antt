@@ -1,10 +1,6 @@
 use borrow.Author.Needs.{needs}
 use Rattle.console_text.proofs.run.Statement.{statement}
 use Rattle.console_text.proofs.run.Tie as tie
-use Rattle.console_text.proofs.run.Reads as reads
-use Rattle.console_text.proofs.run.Lts as lts
-use Rattle.runs.proofs.bench.Reads as bench-reads
-use Rattle.runs.proofs.display.Reads as display-reads
 
 -- src/lib.rt:59:70
 enum-told : tie.Need-enum-told

@@ -3,10 +3,6 @@ use mathlib.Core.Path.{ap, _∙_}
 use borrow.Author.Needs.{needs}
 use Rattle.exports.proofs.styrmflo_bench.Statement.{statement}
 use Rattle.exports.proofs.styrmflo_bench.Tie as tie
-use Rattle.exports.proofs.styrmflo_bench.Reads as reads
-use Rattle.exports.proofs.styrmflo_bench.Lts as lts
-use Rattle.exports.proofs.boundary.put_record.Reads as put-record-reads
-use Rattle.runs.proofs.bench.Reads as bench-reads
 
 -- src/lib.rt:45:9
 bench-requires : tie.Need-bench-requires

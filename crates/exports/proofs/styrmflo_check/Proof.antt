@@ -3,10 +3,6 @@ use mathlib.Core.Path.{ap, _∙_}
 use borrow.Author.Needs.{needs}
 use Rattle.exports.proofs.styrmflo_check.Statement.{statement}
 use Rattle.exports.proofs.styrmflo_check.Tie as tie
-use Rattle.exports.proofs.styrmflo_check.Reads as reads
-use Rattle.exports.proofs.styrmflo_check.Lts as lts
-use Rattle.exports.proofs.boundary.verdict_word.Reads as verdict-word-reads
-use Rattle.form.proofs.check.Reads as check-reads
 
 -- src/lib.rt:19:18
 check-requires : tie.Need-check-requires

@@ -3,10 +3,6 @@ use mathlib.Core.Path.{ap, _∙_}
 use borrow.Author.Needs.{needs}
 use Rattle.exports.proofs.styrmflo_display.Statement.{statement}
 use Rattle.exports.proofs.styrmflo_display.Tie as tie
-use Rattle.exports.proofs.styrmflo_display.Reads as reads
-use Rattle.exports.proofs.styrmflo_display.Lts as lts
-use Rattle.exports.proofs.boundary.put_record.Reads as put-record-reads
-use Rattle.runs.proofs.display.Reads as display-reads
 
 -- src/lib.rt:64:9
 display-requires : tie.Need-display-requires

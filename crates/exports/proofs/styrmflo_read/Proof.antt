@@ -4,10 +4,6 @@ use mathlib.Core.Path.{ap, _∙_}
 use borrow.Author.Needs.{needs}
 use Rattle.exports.proofs.styrmflo_read.Statement.{statement}
 use Rattle.exports.proofs.styrmflo_read.Tie as tie
-use Rattle.exports.proofs.styrmflo_read.Reads as reads
-use Rattle.exports.proofs.styrmflo_read.Lts as lts
-use Rattle.exports.proofs.boundary.put_reading.Reads as put-reading-reads
-use Rattle.listing.proofs.read.Reads as read-reads
 
 -- src/lib.rt:75:9
 read-requires : tie.Need-read-requires

@@ -3,10 +3,6 @@ use mathlib.Core.Path.{ap, _∙_}
 use borrow.Author.Needs.{needs}
 use Rattle.exports.proofs.styrmflo_text.Statement.{statement}
 use Rattle.exports.proofs.styrmflo_text.Tie as tie
-use Rattle.exports.proofs.styrmflo_text.Reads as reads
-use Rattle.exports.proofs.styrmflo_text.Lts as lts
-use Rattle.exports.proofs.boundary.part_word.Reads as part-word-reads
-use Rattle.values.proofs.slots.value_of.Reads as value-of-reads
 
 -- src/lib.rt:95:34
 value-of-requires : tie.Need-value-of-requires

@@ -3,10 +3,6 @@ use mathlib.Core.Path.{ap, _∙_}
 use borrow.Author.Needs.{needs}
 use Rattle.exports.proofs.styrmflo_type_check.Statement.{statement}
 use Rattle.exports.proofs.styrmflo_type_check.Tie as tie
-use Rattle.exports.proofs.styrmflo_type_check.Reads as reads
-use Rattle.exports.proofs.styrmflo_type_check.Lts as lts
-use Rattle.exports.proofs.boundary.verdict_word.Reads as verdict-word-reads
-use Rattle.typing.proofs.type_check.Reads as type-check-reads
 
 -- src/lib.rt:27:18
 type-check-requires : tie.Need-type-check-requires

@@ -4,10 +4,6 @@ use mathlib.Core.Path.{ap, _∙_}
 use borrow.Author.Needs.{needs}
 use Rattle.exports.proofs.styrmflo_write.Statement.{statement}
 use Rattle.exports.proofs.styrmflo_write.Tie as tie
-use Rattle.exports.proofs.styrmflo_write.Reads as reads
-use Rattle.exports.proofs.styrmflo_write.Lts as lts
-use Rattle.exports.proofs.boundary.put_writing.Reads as put-writing-reads
-use Rattle.listing.proofs.write.Reads as write-reads
 
 -- src/lib.rt:85:9
 write-requires : tie.Need-write-requires

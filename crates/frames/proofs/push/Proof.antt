@@ -6,14 +6,14 @@ use Rattle.frames.proofs.push.Tie as tie
 start-requires : tie.Need-start-requires
 start-requires c κs = search needs
 
-put-requires : tie.Need-put-requires
-put-requires c κs = search needs
+write-word-requires : tie.Need-write-word-requires
+write-word-requires c κs = search needs
 
-add-put : tie.Need-add-put
-add-put c = search needs
+add-write-word : tie.Need-add-write-word
+add-write-word c = search needs
 
-put-requires-2 : tie.Need-put-requires-2
-put-requires-2 c κs = search needs
+write-word-requires-2 : tie.Need-write-word-requires-2
+write-word-requires-2 c κs = search needs
 
 save-requires : tie.Need-save-requires
 save-requires c κs = search needs
@@ -28,4 +28,4 @@ returns c = cc
 pub push-spec : {M : Type 1} → statement M
 push-spec =
     tie.close
-    (tie.spec start-requires put-requires add-put put-requires-2 save-requires same-length returns)
+    (tie.spec start-requires write-word-requires add-write-word write-word-requires-2 save-requires same-length returns)

@@ -6,11 +6,11 @@ use Rattle.frames.proofs.save.Tie as tie
 start-requires : tie.Need-start-requires
 start-requires c κs = search needs
 
-add-put : tie.Need-add-put
-add-put c = search needs
+add-write-word : tie.Need-add-write-word
+add-write-word c = search needs
 
-put-requires : tie.Need-put-requires
-put-requires c κs = search needs
+write-word-requires : tie.Need-write-word-requires
+write-word-requires c κs = search needs
 
 add-copy : tie.Need-add-copy
 add-copy c = search needs
@@ -28,4 +28,4 @@ returns c = cc
 pub save-spec : {M : Type 1} → statement M
 save-spec =
     tie.close
-    (tie.spec start-requires add-put put-requires add-copy copy-requires same-length returns)
+    (tie.spec start-requires add-write-word write-word-requires add-copy copy-requires same-length returns)

@@ -6,11 +6,11 @@ use Rattle.frames.proofs.second.Tie as tie
 start-requires : tie.Need-start-requires
 start-requires c κs = search needs
 
-add-put : tie.Need-add-put
-add-put c = search needs
+add-write-word : tie.Need-add-write-word
+add-write-word c = search needs
 
-put-requires : tie.Need-put-requires
-put-requires c κs = search needs
+write-word-requires : tie.Need-write-word-requires
+write-word-requires c κs = search needs
 
 same-length : tie.Need-same-length
 same-length c = search needs
@@ -20,4 +20,4 @@ unfolding inSecond
 returns c = cc
 
 pub second-spec : {M : Type 1} → statement M
-second-spec = tie.close (tie.spec start-requires add-put put-requires same-length returns)
+second-spec = tie.close (tie.spec start-requires add-write-word write-word-requires same-length returns)

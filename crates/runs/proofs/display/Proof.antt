@@ -16,8 +16,8 @@ type-check-requires c κs = search needs
 limits-requires : tie.Need-limits-requires
 limits-requires c κs = search needs
 
-and-then-requires : tie.Need-and-then-requires
-and-then-requires c κs = search needs
+followed-by-requires : tie.Need-followed-by-requires
+followed-by-requires c κs = search needs
 
 finish-requires : tie.Need-finish-requires
 finish-requires c κs = search needs
@@ -32,4 +32,4 @@ returns c = let short : Short (now (c .before .before .before .before .before .b
 pub display-spec : {M : Type 1} → statement M
 display-spec =
     tie.close
-    (tie.spec type-check-requires limits-requires and-then-requires finish-requires same-length returns)
+    (tie.spec type-check-requires limits-requires followed-by-requires finish-requires same-length returns)

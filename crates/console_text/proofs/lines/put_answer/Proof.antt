@@ -4,10 +4,6 @@ use Rattle.console_text.proofs.Putting.{answer-lines-are}
 use borrow.Author.Needs.{needs}
 use Rattle.console_text.proofs.lines.put_answer.Statement.{statement}
 use Rattle.console_text.proofs.lines.put_answer.Tie as tie
-use Rattle.console_text.proofs.lines.put_answer.Reads as reads
-use Rattle.console_text.proofs.lines.put_answer.Lts as lts
-use Rattle.console_text.proofs.lines.put_numbers.Reads as put-numbers-reads
-use Rattle.console_text.proofs.lines.put_values.Reads as put-values-reads
 
 -- src/lines.rt:119:9
 put-numbers-requires : tie.Need-put-numbers-requires

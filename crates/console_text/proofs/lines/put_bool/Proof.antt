@@ -3,9 +3,6 @@ use Rattle.console_text.proofs.Putting.{bool-true, bool-false}
 use borrow.Author.Needs.{needs}
 use Rattle.console_text.proofs.lines.put_bool.Statement.{statement}
 use Rattle.console_text.proofs.lines.put_bool.Tie as tie
-use Rattle.console_text.proofs.lines.put_bool.Reads as reads
-use Rattle.console_text.proofs.lines.put_bool.Lts as lts
-use Rattle.text.proofs.put_bytes.Reads as put-bytes-reads
 
 -- src/lines.rt:22:44
 slice-aggregate-put-bytes : tie.Need-slice-aggregate-put-bytes

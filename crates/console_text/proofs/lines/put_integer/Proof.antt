@@ -6,10 +6,6 @@ use Rattle.text.proofs.Writing.{wrote-as, wrote-then}
 use borrow.Author.Needs.{needs}
 use Rattle.console_text.proofs.lines.put_integer.Statement.{statement}
 use Rattle.console_text.proofs.lines.put_integer.Tie as tie
-use Rattle.console_text.proofs.lines.put_integer.Reads as reads
-use Rattle.console_text.proofs.lines.put_integer.Lts as lts
-use Rattle.text.proofs.put_bytes.Reads as put-bytes-reads
-use Rattle.text.proofs.put_signed.Reads as put-signed-reads
 
 -- src/lines.rt:30:44
 slice-aggregate-put-bytes : tie.Need-slice-aggregate-put-bytes

@@ -4,11 +4,6 @@ use Rattle.console_text.proofs.Putting.{number-line-is}
 use borrow.Author.Needs.{needs}
 use Rattle.console_text.proofs.lines.put_number_line.Statement.{statement}
 use Rattle.console_text.proofs.lines.put_number_line.Tie as tie
-use Rattle.console_text.proofs.lines.put_number_line.Reads as reads
-use Rattle.console_text.proofs.lines.put_number_line.Lts as lts
-use Rattle.text.proofs.put.Reads as put-reads
-use Rattle.text.proofs.put_bytes.Reads as put-bytes-reads
-use Rattle.text.proofs.put_decimal.Reads as put-decimal-reads
 
 -- src/lines.rt:13:9
 put-bytes-requires : tie.Need-put-bytes-requires

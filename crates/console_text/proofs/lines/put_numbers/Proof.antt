@@ -4,9 +4,6 @@ use Rattle.console_text.proofs.Putting.{number-lines-are}
 use borrow.Author.Needs.{needs}
 use Rattle.console_text.proofs.lines.put_numbers.Statement.{statement}
 use Rattle.console_text.proofs.lines.put_numbers.Tie as tie
-use Rattle.console_text.proofs.lines.put_numbers.Reads as reads
-use Rattle.console_text.proofs.lines.put_numbers.Lts as lts
-use Rattle.console_text.proofs.lines.put_number_line.Reads as put-number-line-reads
 
 -- src/lines.rt:84:41
 slice-aggregate-put-number-line : tie.Need-slice-aggregate-put-number-line

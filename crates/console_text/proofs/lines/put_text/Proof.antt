@@ -4,11 +4,6 @@ use Rattle.console_text.proofs.Putting.{text-empty, text-some}
 use borrow.Author.Needs.{needs}
 use Rattle.console_text.proofs.lines.put_text.Statement.{statement}
 use Rattle.console_text.proofs.lines.put_text.Tie as tie
-use Rattle.console_text.proofs.lines.put_text.Reads as reads
-use Rattle.console_text.proofs.lines.put_text.Lts as lts
-use Rattle.text.proofs.put.Reads as put-reads
-use Rattle.text.proofs.put_bytes.Reads as put-bytes-reads
-use Rattle.text.proofs.put_hex.Reads as put-hex-reads
 
 -- src/lines.rt:39:9
 put-requires : tie.Need-put-requires

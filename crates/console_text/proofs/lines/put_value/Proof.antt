@@ -6,13 +6,6 @@ use Rattle.console_text.proofs.Putting.{value-absent, value-bool, value
 use borrow.Author.Needs.{needs}
 use Rattle.console_text.proofs.lines.put_value.Statement.{statement}
 use Rattle.console_text.proofs.lines.put_value.Tie as tie
-use Rattle.console_text.proofs.lines.put_value.Reads as reads
-use Rattle.console_text.proofs.lines.put_value.Lts as lts
-use Rattle.console_text.proofs.lines.put_bool.Reads as put-bool-reads
-use Rattle.console_text.proofs.lines.put_integer.Reads as put-integer-reads
-use Rattle.console_text.proofs.lines.put_text.Reads as put-text-reads
-use Rattle.text.proofs.put.Reads as put-reads
-use Rattle.values.proofs.texts.text_bytes.Reads as text-bytes-reads
 
 -- src/lines.rt:56:36
 enum-told : tie.Need-enum-told

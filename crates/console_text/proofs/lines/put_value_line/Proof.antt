@@ -4,11 +4,6 @@ use Rattle.console_text.proofs.Putting.{value-line-is}
 use borrow.Author.Needs.{needs}
 use Rattle.console_text.proofs.lines.put_value_line.Statement.{statement}
 use Rattle.console_text.proofs.lines.put_value_line.Tie as tie
-use Rattle.console_text.proofs.lines.put_value_line.Reads as reads
-use Rattle.console_text.proofs.lines.put_value_line.Lts as lts
-use Rattle.console_text.proofs.lines.put_value.Reads as put-value-reads
-use Rattle.text.proofs.put.Reads as put-reads
-use Rattle.text.proofs.put_bytes.Reads as put-bytes-reads
 
 -- src/lines.rt:76:41
 slice-aggregate-put-bytes : tie.Need-slice-aggregate-put-bytes

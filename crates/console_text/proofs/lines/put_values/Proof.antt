@@ -4,9 +4,6 @@ use Rattle.console_text.proofs.Putting.{value-lines-are}
 use borrow.Author.Needs.{needs}
 use Rattle.console_text.proofs.lines.put_values.Statement.{statement}
 use Rattle.console_text.proofs.lines.put_values.Tie as tie
-use Rattle.console_text.proofs.lines.put_values.Reads as reads
-use Rattle.console_text.proofs.lines.put_values.Lts as lts
-use Rattle.console_text.proofs.lines.put_value_line.Reads as put-value-line-reads
 
 -- src/lines.rt:103:9
 put-value-line-requires : tie.Need-put-value-line-requires

@@ -3,10 +3,6 @@ use Rattle.console_text.proofs.Reading.{budget-wrong, budget-key}
 use borrow.Author.Needs.{needs}
 use Rattle.console_text.proofs.request.read_budget.Statement.{statement}
 use Rattle.console_text.proofs.request.read_budget.Tie as tie
-use Rattle.console_text.proofs.request.read_budget.Reads as reads
-use Rattle.console_text.proofs.request.read_budget.Lts as lts
-use Rattle.text.proofs.after_key.Reads as after-key-reads
-use Rattle.text.proofs.read_number.Reads as read-number-reads
 
 -- src/request.rt:44:51
 slice-aggregate-after-key : tie.Need-slice-aggregate-after-key

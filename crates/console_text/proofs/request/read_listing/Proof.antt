@@ -2,10 +2,6 @@ use Rattle.console_text.proofs.Tables.{message-found, message-stored, r
 use borrow.Author.Needs.{needs}
 use Rattle.console_text.proofs.request.read_listing.Statement.{statement}
 use Rattle.console_text.proofs.request.read_listing.Tie as tie
-use Rattle.console_text.proofs.request.read_listing.Reads as reads
-use Rattle.console_text.proofs.request.read_listing.Lts as lts
-use Rattle.console_text.proofs.request.read_message.Reads as read-message-reads
-use Rattle.listing.proofs.read_from.Reads as read-from-reads
 
 -- src/request.rt:78:11
 read-from-requires : tie.Need-read-from-requires

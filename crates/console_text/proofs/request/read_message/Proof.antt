@@ -3,10 +3,6 @@ use Rattle.console_text.proofs.Reading.{message-wrong, message-key}
 use borrow.Author.Needs.{needs}
 use Rattle.console_text.proofs.request.read_message.Statement.{statement}
 use Rattle.console_text.proofs.request.read_message.Tie as tie
-use Rattle.console_text.proofs.request.read_message.Reads as reads
-use Rattle.console_text.proofs.request.read_message.Lts as lts
-use Rattle.text.proofs.after_key.Reads as after-key-reads
-use Rattle.text.proofs.read_hex.Reads as read-hex-reads
 
 -- src/request.rt:54:51
 slice-aggregate-after-key : tie.Need-slice-aggregate-after-key

@@ -2,9 +2,6 @@ use Rattle.console_text.proofs.Reading.{mode-bench, mode-display, mode-
 use borrow.Author.Needs.{needs}
 use Rattle.console_text.proofs.request.read_mode.Statement.{statement}
 use Rattle.console_text.proofs.request.read_mode.Tie as tie
-use Rattle.console_text.proofs.request.read_mode.Reads as reads
-use Rattle.console_text.proofs.request.read_mode.Lts as lts
-use Rattle.text.proofs.after_key.Reads as after-key-reads
 
 -- src/request.rt:31:53
 slice-aggregate-after-key : tie.Need-slice-aggregate-after-key

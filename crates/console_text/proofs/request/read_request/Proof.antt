@@ -6,12 +6,6 @@ use Rattle.console_text.proofs.Reading.{first-wrong, second-wrong, thir
 use borrow.Author.Needs.{needs}
 use Rattle.console_text.proofs.request.read_request.Statement.{statement}
 use Rattle.console_text.proofs.request.read_request.Tie as tie
-use Rattle.console_text.proofs.request.read_request.Reads as reads
-use Rattle.console_text.proofs.request.read_request.Lts as lts
-use Rattle.console_text.proofs.request.read_budget.Reads as read-budget-reads
-use Rattle.console_text.proofs.request.read_listing.Reads as read-listing-reads
-use Rattle.console_text.proofs.request.read_message.Reads as read-message-reads
-use Rattle.console_text.proofs.request.read_mode.Reads as read-mode-reads
 
 -- src/request.rt:98:33
 read-mode-requires : tie.Need-read-mode-requires

@@ -4,9 +4,6 @@ use borrow.Author.Tests.{le-leb, lt-leb}
 use borrow.Author.Needs.{needs}
 use Rattle.exports.proofs.boundary.fitting_word.Statement.{statement}
 use Rattle.exports.proofs.boundary.fitting_word.Tie as tie
-use Rattle.exports.proofs.boundary.fitting_word.Reads as reads
-use Rattle.exports.proofs.boundary.fitting_word.Lts as lts
-use Rattle.exports.proofs.boundary.span_word.Reads as span-word-reads
 
 -- src/boundary.rt:111:8
 cast-if1 : tie.Need-cast-if1

@@ -3,9 +3,6 @@ use Rattle.exports.proofs.Parts.{no-part, in-literals, in-message}
 use borrow.Author.Needs.{needs}
 use Rattle.exports.proofs.boundary.part_word.Statement.{statement}
 use Rattle.exports.proofs.boundary.part_word.Tie as tie
-use Rattle.exports.proofs.boundary.part_word.Reads as reads
-use Rattle.exports.proofs.boundary.part_word.Lts as lts
-use Rattle.exports.proofs.boundary.fitting_word.Reads as fitting-word-reads
 
 -- src/boundary.rt:122:21
 enum-known-value : tie.Need-enum-known-value

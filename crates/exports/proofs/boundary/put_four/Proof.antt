@@ -1,9 +1,6 @@
 use borrow.Author.Needs.{needs}
 use Rattle.exports.proofs.boundary.put_four.Statement.{statement}
 use Rattle.exports.proofs.boundary.put_four.Tie as tie
-use Rattle.exports.proofs.boundary.put_four.Reads as reads
-use Rattle.exports.proofs.boundary.put_four.Lts as lts
-use Rattle.exports.proofs.boundary.put_long.Reads as put-long-reads
 
 -- src/boundary.rt:69:5
 put-long-requires : tie.Need-put-long-requires

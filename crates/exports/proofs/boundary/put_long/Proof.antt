@@ -3,8 +3,6 @@ use mathlib.Core.Path.{sym}
 use borrow.Author.Needs.{needs}
 use Rattle.exports.proofs.boundary.put_long.Statement.{statement}
 use Rattle.exports.proofs.boundary.put_long.Tie as tie
-use Rattle.exports.proofs.boundary.put_long.Reads as reads
-use Rattle.exports.proofs.boundary.put_long.Lts as lts
 
 -- src/boundary.rt:62:9
 mul-words : tie.Need-mul-words

@@ -1,10 +1,8 @@
+use Rattle.listing.specs.Answers.{readingNumber, readingPlace, readingWords, readingLiterals}
 use Rattle.exports.specs.Boundary.{withReading}
 use borrow.Author.Needs.{needs}
 use Rattle.exports.proofs.boundary.put_reading.Statement.{statement}
 use Rattle.exports.proofs.boundary.put_reading.Tie as tie
-use Rattle.exports.proofs.boundary.put_reading.Reads as reads
-use Rattle.exports.proofs.boundary.put_reading.Lts as lts
-use Rattle.exports.proofs.boundary.put_four.Reads as put-four-reads
 
 -- src/boundary.rt:79:23
 enum-known-reading : tie.Need-enum-known-reading
@@ -40,7 +38,7 @@ same-length c = search needs
 
 -- src/boundary.rt:75:1
 returns : tie.Need-returns
-unfolding withReading
+unfolding withReading readingNumber readingPlace readingWords readingLiterals
 returns c = rw (c .before .before .before .before .before .reading .given .1) (cc)
 
 -- src/boundary.rt:75:1
@@ -49,7 +47,7 @@ same-length-2 c = search needs
 
 -- src/boundary.rt:75:1
 returns-2 : tie.Need-returns-2
-unfolding withReading
+unfolding withReading readingNumber readingPlace readingWords readingLiterals
 returns-2 c = rw (c .before .before .before .before .before .reading2 .given .1) (cc)
 
 -- src/boundary.rt:75:1
@@ -58,7 +56,7 @@ same-length-3 c = search needs
 
 -- src/boundary.rt:75:1
 returns-3 : tie.Need-returns-3
-unfolding withReading
+unfolding withReading readingNumber readingPlace readingWords readingLiterals
 returns-3 c = rw (c .before .before .before .before .enum-told .given .1) (cc)
 
 pub put-reading-spec : {M : Type 1} → statement M

@@ -2,10 +2,6 @@ use Rattle.exports.specs.Boundary.{withRecord}
 use borrow.Author.Needs.{needs}
 use Rattle.exports.proofs.boundary.put_record.Statement.{statement}
 use Rattle.exports.proofs.boundary.put_record.Tie as tie
-use Rattle.exports.proofs.boundary.put_record.Reads as reads
-use Rattle.exports.proofs.boundary.put_record.Lts as lts
-use Rattle.exports.proofs.boundary.put_head.Reads as put-head-reads
-use Rattle.values.proofs.slots.write_slot.Reads as write-slot-reads
 
 -- src/boundary.rt:47:5
 put-head-requires : tie.Need-put-head-requires

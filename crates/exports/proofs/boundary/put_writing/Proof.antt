@@ -1,10 +1,8 @@
+use Rattle.listing.specs.Answers.{writingNumber, writingPlace, writingLength}
 use Rattle.exports.specs.Boundary.{withWriting}
 use borrow.Author.Needs.{needs}
 use Rattle.exports.proofs.boundary.put_writing.Statement.{statement}
 use Rattle.exports.proofs.boundary.put_writing.Tie as tie
-use Rattle.exports.proofs.boundary.put_writing.Reads as reads
-use Rattle.exports.proofs.boundary.put_writing.Lts as lts
-use Rattle.exports.proofs.boundary.put_four.Reads as put-four-reads
 
 -- src/boundary.rt:89:23
 enum-known-writing : tie.Need-enum-known-writing
@@ -36,7 +34,7 @@ same-length c = search needs
 
 -- src/boundary.rt:85:1
 returns : tie.Need-returns
-unfolding withWriting
+unfolding withWriting writingNumber writingPlace writingLength
 returns c = rw (c .before .before .before .before .before .writing .given .1) (cc)
 
 -- src/boundary.rt:85:1
@@ -45,7 +43,7 @@ same-length-2 c = search needs
 
 -- src/boundary.rt:85:1
 returns-2 : tie.Need-returns-2
-unfolding withWriting
+unfolding withWriting writingNumber writingPlace writingLength
 returns-2 c = rw (c .before .before .before .before .enum-told .given .1) (cc)
 
 -- src/boundary.rt:85:1
@@ -54,7 +52,7 @@ same-length-3 c = search needs
 
 -- src/boundary.rt:85:1
 returns-3 : tie.Need-returns-3
-unfolding withWriting
+unfolding withWriting writingNumber writingPlace writingLength
 returns-3 c = rw (c .before .before .before .before .enum-told2 .given .1) (cc)
 
 pub put-writing-spec : {M : Type 1} → statement M

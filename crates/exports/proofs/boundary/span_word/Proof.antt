@@ -2,8 +2,6 @@ use native.Mathlib.Omega.{arith}
 use borrow.Author.Needs.{needs}
 use Rattle.exports.proofs.boundary.span_word.Statement.{statement}
 use Rattle.exports.proofs.boundary.span_word.Tie as tie
-use Rattle.exports.proofs.boundary.span_word.Reads as reads
-use Rattle.exports.proofs.boundary.span_word.Lts as lts
 
 -- src/boundary.rt:99:17
 cast-place : tie.Need-cast-place

@@ -3,8 +3,6 @@ use Rattle.grammar.specs.Answer.{number, place}
 use borrow.Author.Needs.{needs}
 use Rattle.exports.proofs.boundary.verdict_word.Statement.{statement}
 use Rattle.exports.proofs.boundary.verdict_word.Tie as tie
-use Rattle.exports.proofs.boundary.verdict_word.Reads as reads
-use Rattle.exports.proofs.boundary.verdict_word.Lts as lts
 
 -- src/boundary.rt:16:28
 enum-told : tie.Need-enum-told

@@ -23,11 +23,11 @@ add-get c = omega arith
 get-requires : tie.Need-get-requires Inv-loop μ-loop
 get-requires c κs = tt
 
-add-put : tie.Need-add-put Inv-loop μ-loop
-add-put c = omega arith
+add-write-word : tie.Need-add-write-word Inv-loop μ-loop
+add-write-word c = omega arith
 
-put-requires : tie.Need-put-requires Inv-loop μ-loop
-put-requires c κs = tt
+write-word-requires : tie.Need-write-word-requires Inv-loop μ-loop
+write-word-requires c κs = tt
 
 add-i : tie.Need-add-i Inv-loop μ-loop
 add-i c = omega arith
@@ -36,7 +36,7 @@ loop-less : tie.Need-loop-less Inv-loop μ-loop
 loop-less c = omega arith
 
 loop-again : tie.Need-loop-again Inv-loop μ-loop
-loop-again c = (omega arith, cc (copied-more (c .before .before .before .before .before .before .before .before .before .args .words .now) (c .before .before .before .before .before .before .before .before .before .args .from) (c .before .before .before .before .before .before .before .before .before .args .to) (c .before .before .before .before .before .before .before .loop .i)), c .before .before .put .kept .0 ∙ c .before .before .before .before .before .before .before .loop .inv .2)
+loop-again c = (omega arith, cc (copied-more (c .before .before .before .before .before .before .before .before .before .args .words .now) (c .before .before .before .before .before .before .before .before .before .args .from) (c .before .before .before .before .before .before .before .before .before .args .to) (c .before .before .before .before .before .before .before .loop .i)), c .before .before .write-word .kept .0 ∙ c .before .before .before .before .before .before .before .loop .inv .2)
 
 same-length : tie.Need-same-length Inv-loop μ-loop
 same-length c = c .before .loop .inv .2
@@ -53,8 +53,8 @@ copy-across-spec =
     loop-holds
     add-get
     get-requires
-    add-put
-    put-requires
+    add-write-word
+    write-word-requires
     add-i
     loop-less
     loop-again

@@ -1,5 +1,5 @@
 use Rattle.listing.proofs.Lines.{listing-is}
-use Rattle.listing.proofs.Size.{size-facts}
+use Rattle.table.proofs.Size.{size-facts}
 use Rattle.text.proofs.Writing.{wrote-then, wrote-as}
 use native.Mathlib.Omega.{arith}
 use borrow.Author.Needs.{needs}

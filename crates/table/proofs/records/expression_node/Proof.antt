@@ -6,8 +6,8 @@ use borrow.Author.Needs.{needs}
 use Rattle.table.proofs.records.expression_node.Statement.{statement}
 use Rattle.table.proofs.records.expression_node.Tie as tie
 
-integer-requires : tie.Need-integer-requires
-integer-requires c κs = search needs
+signed-of-requires : tie.Need-signed-of-requires
+signed-of-requires c κs = search needs
 
 returns : tie.Need-returns
 unfolding nodeOfTwo nodeFor nodes
@@ -15,7 +15,7 @@ returns c = rw (c .match .keys1)
 
 returns-2 : tie.Need-returns-2
 unfolding nodeOfTwo nodeFor nodes
-returns-2 c = rw (toZ-ofZ (record { sfits = c .integer .ok }), c .before .match .keys2, c .integer .ensures)
+returns-2 c = rw (toZ-ofZ (record { sfits = c .signed-of .ok }), c .before .match .keys2, c .signed-of .ensures)
 
 returns-3 : tie.Need-returns-3
 unfolding nodeOfTwo nodeFor nodes
@@ -68,7 +68,7 @@ pub expression-node-spec : {M : Type 1} → statement M
 expression-node-spec =
     tie.close
     (tie.spec
-    integer-requires
+    signed-of-requires
     returns
     returns-2
     returns-3

@@ -14,7 +14,7 @@ use Rattle.typing.proofs.expressions.expression_type.Reads as expressio
 use Rattle.typing.proofs.expressions.expression_type.Kinds as expression-type-kinds
 use Rattle.typing.proofs.expressions.+expression_type.Lts-expression_type as expression-type-lts
 use Rattle.table.proofs.records.node_at.Reads as node-at-reads
-use Rattle.typing.proofs.expressions.both.Reads as both-reads
+use Rattle.typing.proofs.expressions.negation_type.Reads as negation-type-reads
 use Rattle.typing.proofs.expressions.operator_type.Reads as operator-type-reads
 use Rattle.typing.proofs.slots.slot_type.Reads as slot-type-reads
 use Rattle.typing.proofs.expressions.+expression_type.{statement}
@@ -40,7 +40,7 @@ expression-type-below t =
     expression-type.Pre
 
 abbrev claims : ℕ → expression-type-lts.Claims
-claims t = (node-at-reads.Asked, node-at-reads.Learnt, slot-type-reads.Asked, slot-type-reads.Learnt, expression-type-below t, expression-type.Post, operator-type-reads.Asked, operator-type-reads.Learnt, both-reads.Asked, both-reads.Learnt)
+claims t = (node-at-reads.Asked, node-at-reads.Learnt, slot-type-reads.Asked, slot-type-reads.Learnt, expression-type-below t, expression-type.Post, operator-type-reads.Asked, operator-type-reads.Learnt, negation-type-reads.Asked, negation-type-reads.Learnt)
 
 abbrev Seen : ℕ → Type 0
 Seen t = expression-type-lts.After-node-at (claims t) (expression-type-at t) expression-type.Post
@@ -88,8 +88,8 @@ expression-type-enum-known-node-3 t c = search needs
 expression-type-expression-type-requires-3 : (t : ℕ) → expression-type-lts.Need-expression-type-requires-3 (claims t) (expression-type-at t) expression-type.Post
 expression-type-expression-type-requires-3 t c κs = called t (c .before .before .before) (falls-at t (c .before .before .before) (c .before .node3 .given .1) .below)
 
-expression-type-both-requires : (t : ℕ) → expression-type-lts.Need-both-requires (claims t) (expression-type-at t) expression-type.Post
-expression-type-both-requires t c κs = tt
+expression-type-negation-type-requires : (t : ℕ) → expression-type-lts.Need-negation-type-requires (claims t) (expression-type-at t) expression-type.Post
+expression-type-negation-type-requires t c κs = tt
 
 expression-type-returns : (t : ℕ) → expression-type-lts.Need-returns (claims t) (expression-type-at t) expression-type.Post
 unfolding exprType exprOf
@@ -107,7 +107,7 @@ expression-type-returns-4 : (t : ℕ) → expression-type-lts.Need-returns-4 (cl
 expression-type-returns-4 t c = let d = c .before .before .before .before .before .before in let s = d .before .before in c .operator-type .ensures ∙ binary (s .pre .1) (s .args .slots) (d .node-at .ensures) (c .before .before .before .before .node2 .given .1) (c .before .before .expression-type .ensures) (c .before .expression-type2 .ensures)
 
 expression-type-returns-5 : (t : ℕ) → expression-type-lts.Need-returns-5 (claims t) (expression-type-at t) expression-type.Post
-expression-type-returns-5 t c = let d = c .before .before .before .before .before in let s = d .before .before in c .both .ensures ∙ negation (s .pre .1) (s .args .slots) (d .node-at .ensures) (c .before .before .before .node3 .given .1) (c .before .expression-type3 .ensures)
+expression-type-returns-5 t c = let d = c .before .before .before .before .before in let s = d .before .before in c .negation-type .ensures ∙ negation (s .pre .1) (s .args .slots) (d .node-at .ensures) (c .before .before .before .node3 .given .1) (c .before .expression-type3 .ensures)
 
 expression-type-returns-6 : (t : ℕ) → expression-type-lts.Need-returns-6 (claims t) (expression-type-at t) expression-type.Post
 expression-type-returns-6 t c = let d = c .before in let s = d .before .before in other (s .args .slots) (exprAt (s .args .words .now)) (s .args .k) (d .node-at .result) (c .match .keys6) ∙ plain (s .pre .1) (s .args .slots) (d .node-at .ensures) refl
@@ -126,7 +126,7 @@ pub +expression-type-spec : {M : Type 1} → statement M
     (expression-type-operator-type-requires t)
     (expression-type-enum-known-node-3 t)
     (expression-type-expression-type-requires-3 t)
-    (expression-type-both-requires t)
+    (expression-type-negation-type-requires t)
     (expression-type-returns t)
     (expression-type-returns-2 t)
     (expression-type-returns-3 t)

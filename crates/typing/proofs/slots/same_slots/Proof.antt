@@ -2,8 +2,7 @@ use Prim.Native.Nat.{_≤_, _-_}
 use mathlib.Core.Path.{_≡_, refl, _∙_}
 use native.Mathlib.Omega.{arith}
 use lib.ListN.{drop}
-use Rattle.grammar.specs.Types.{same}
-use Rattle.typing.proofs.Same.{same-on, same-not, same-end}
+use Rattle.laws.specs.Same.{same, same-on, same-not, same-end}
 use Rattle.typing.proofs.slots.same_slots.Statement.{statement}
 use Rattle.typing.proofs.slots.same_slots.Tie as tie
 

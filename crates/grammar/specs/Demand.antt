@@ -1,0 +1,30 @@
+-- Demand 3: 'A table that passes the type check never gets STUCK, and on DONE the declared values are there, one for one, with their types'. What it
+-- says of an answer stands here; proofs/Demand.antt shows it. Assumes nothing.
+use mathlib.Core.Path.{_≡_}
+use mathlib.Core.Logic.{_≢_}
+use mathlib.Core.List.{List, [], _∷_}
+use Prim.Native.Nat.{ℕ, _+_, _<_, _≤_}
+use lib.ListN.{getD}
+use Rattle.grammar.specs.declared.Answer.{Answer}
+use Rattle.grammar.specs.declared.Value.{Value}
+use Rattle.grammar.specs.declared.Value.the-variants as Val
+use Rattle.grammar.specs.Numbers.{DONE, STUCK}
+use Rattle.grammar.specs.Words.{ruleWord, returnedCount}
+use Rattle.grammar.specs.Types.{typeNumber}
+
+abbrev pub valuesOf : Answer → List Value
+valuesOf a = a .value0 ∷ a .value1 ∷ a .value2 ∷ a .value3 ∷ []
+
+-- value i of the record
+abbrev pub valueAt : Answer → ℕ → Value
+valueAt a i = getD (valuesOf a) i Val.Absent
+
+-- what the start rule of a table declares of the values that an answer holds
+pub record Declared (words : List ℕ) (a : Answer) : Type 0 where
+  pub typed : (i : ℕ) → i < returnedCount words 0 → (typeNumber (valueAt a i) ≡ ruleWord words 0 (11 + i)) × (1 ≤ typeNumber (valueAt a i))
+  pub absent : (i : ℕ) → returnedCount words 0 ≤ i → valueAt a i ≡ Val.Absent
+
+-- It is not STUCK, and if it is DONE the values are as declared
+pub record WellTyped (words : List ℕ) (a : Answer) : Type 0 where
+  pub never-stuck : a .number ≢ STUCK
+  pub values-declared : a .number ≡ DONE → Declared words a
