@@ -28,7 +28,7 @@ use Rattle.grammar.specs.Form.{tableCheck}
 use Rattle.grammar.specs.Types.{Env, typeNumber, typesOf, typeOf, startEnv, haveAll, typedAfter, typedRule, untyped}
 use Rattle.grammar.specs.Run.{Setting, Applied, failed, ended, outOfFuel, fresh}
 use Rattle.grammar.specs.Answer.{number, endingNumber, typeRules, typeCheck, check, deepestVisit, run, answered, answerOf, refusal, conclude, settingOf, answer}
-use Rattle.grammar.specs.Demand.{Declared, WellTyped}
+use Rattle.grammar.specs.Demand.{Declared, WellTyped, Demand3}
 use Rattle.grammar.proofs.Facts.{SoundTable, sizes, followedBy-passed, refusedAt-passed, sound-of-form, start-inherits-none}
 use Rattle.grammar.proofs.Records.{four-places, rule-right}
 use Rattle.grammar.proofs.Decode.{inherited-types, returned-types}
@@ -176,3 +176,9 @@ module _ (words literals : List ℕ) where
 
   pub bench-well-typed : typeCheck words literals ≡ Passed → (message : List ℕ) (budget workLength : ℕ) → WellTyped words (answer Bench words literals message budget workLength)
   bench-well-typed e message budget workLength = rw (same-answer e message budget workLength) (display-well-typed message budget workLength)
+
+pub demand-3 : Demand3
+demand-3 = record {
+  of-display = λ words literals message budget workLength. display-well-typed words literals message budget workLength;
+  of-bench = λ words literals message budget workLength e. bench-well-typed words literals e message budget workLength;
+}

@@ -1,5 +1,6 @@
 pub mod Bench
 pub mod Fuel
+pub mod Integers
 pub mod Facts
 pub mod Records
 pub mod Nodes

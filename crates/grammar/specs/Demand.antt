@@ -11,6 +11,9 @@ use Rattle.grammar.specs.declared.Value.the-variants as Val
 use Rattle.grammar.specs.Numbers.{DONE, STUCK}
 use Rattle.grammar.specs.Words.{ruleWord, returnedCount}
 use Rattle.grammar.specs.Types.{typeNumber}
+use Rattle.grammar.specs.declared.Verdict.the-variants.{Passed}
+use Rattle.grammar.specs.declared.Mode.the-variants.{Bench, Display}
+use Rattle.grammar.specs.Answer.{typeCheck, answer}
 
 abbrev pub valuesOf : Answer → List Value
 valuesOf a = a .value0 ∷ a .value1 ∷ a .value2 ∷ a .value3 ∷ []
@@ -28,3 +31,9 @@ pub record Declared (words : List ℕ) (a : Answer) : Type 0 where
 pub record WellTyped (words : List ℕ) (a : Answer) : Type 0 where
   pub never-stuck : a .number ≢ STUCK
   pub values-declared : a .number ≡ DONE → Declared words a
+
+-- Demand 3, for every table, message, budget and length of the work area: a display run keeps it, and so does a bench run of a table that passes
+-- the type check
+pub record Demand3 : Type 0 where
+  pub of-display : (words literals message : List ℕ) (budget workLength : ℕ) → WellTyped words (answer Display words literals message budget workLength)
+  pub of-bench : (words literals message : List ℕ) (budget workLength : ℕ) → typeCheck words literals ≡ Passed → WellTyped words (answer Bench words literals message budget workLength)

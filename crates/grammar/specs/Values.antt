@@ -5,7 +5,7 @@ use mathlib.Core.Bool.{Bool, true, false, cond, not, _&&_, Bool·beq}
 use Prim.Native.Nat.{ℕ, zero, suc, _+_}
 use lib.Dec.{ltb, leb, eqb}
 use lib.IntN.{ℤ, pos, negsuc, _+ℤ_, _-ℤ_, _*ℤ_}
-use lib.Signed.{mag, ltZ, quotZ}
+use lib.Signed.{ltZ, quotZ}
 use lib.ListN.{length, take, drop}
 use Rattle.laws.specs.Same.{same}
 use Rattle.grammar.specs.declared.Arithmetic.{Arithmetic}
@@ -23,9 +23,14 @@ use Rattle.grammar.specs.declared.Value.the-variants as Val
 
 -- ════ 32-bit arithmetic ════
 
--- signed 32-bit numbers are -2147483648 to 2147483647; '32-bit overflow' is FAULT
+-- signed 32-bit numbers are -2147483648 to 2147483647; `negsuc n` is -(n + 1)
+abbrev pub signed32 : ℤ → Bool
+signed32 (pos n) = leb n 2147483647
+signed32 (negsuc n) = leb (n + 1) 2147483648
+
+-- '32-bit overflow' is FAULT
 unfoldable pub fitting : ℤ → Number
-fitting z = cond (ltb (mag z) 2147483648) (Is z) (Not Overflow)
+fitting z = cond (signed32 z) (Is z) (Not Overflow)
 
 -- 'zero divisor' is FAULT; 'Negative division drops the fraction, toward zero'
 unfoldable pub quotient : ℤ → ℤ → Number

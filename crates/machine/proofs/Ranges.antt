@@ -5,7 +5,7 @@ use mathlib.Core.Bool.{Bool, true, false, cond, not}
 use mathlib.Core.List.{List, [], _∷_, map}
 use Prim.Native.Nat.{ℕ, zero, suc, _+_, _*_, _<_}
 use native.Mathlib.Omega.{arith}
-use borrow.Author.Tests.{ltb-true}
+use borrow.Author.Tests.{ltb-true, ltb-false}
 use lib.Dec.{ltb}
 use lib.IntN.{ℤ, pos, negsuc, _+ℤ_, _-ℤ_, _*ℤ_}
 use lib.Signed.{mag, ltZ, quotZ}
@@ -27,6 +27,7 @@ use Rattle.grammar.specs.declared.Node.the-variants as N
 use Rattle.grammar.specs.Words.{signed, kindAt, nodes, nodeFor, nodeAt}
 use Rattle.grammar.specs.Tree.{Expr, bool, integer, text, slot, binary, negation, exprOf, exprWith, exprAt}
 use Rattle.grammar.specs.Values.{Evaluated, value, ends, after, wantInteger, wantBool, wantText, present, numberAt}
+use Rattle.grammar.proofs.Integers.{signed32-fits, signed32-not}
 use Rattle.grammar.specs.Values.{fitting, quotient, calculated, equal, lookLeft, operate, negated}
 use Rattle.grammar.specs.Run.{Slots, Setting, eval, evalAll}
 use Rattle.values.specs.Slots.{InRange}
@@ -78,8 +79,8 @@ present-ranged k (Range.text p q) = yields (Range.text p q)
 
 fitting-by : (k : ℕ) (z : ℤ) (t : Bool) → ltb (mag z) 2147483648 ≡ t → Ranged (numberAt k (fitting z))
 unfolding fitting
-fitting-by k z true e = rw e (yields (Range.integer (record { sfits = ltb-true (mag z) 2147483648 e })))
-fitting-by k z false e = rw e yields-fault
+fitting-by k z true e = rw (signed32-fits z (ltb-true (mag z) 2147483648 e)) (yields (Range.integer (record { sfits = ltb-true (mag z) 2147483648 e })))
+fitting-by k z false e = rw (signed32-not z (ltb-false (mag z) 2147483648 e)) yields-fault
 
 calculated-ranged : (op : Arithmetic) (k : ℕ) (a b : ℤ) → Ranged (numberAt k (calculated op a b))
 unfolding calculated quotient

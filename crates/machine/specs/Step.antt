@@ -44,7 +44,8 @@ staged r stage = moved r stage (r .at) (r .frames)
 abbrev pub visited : Run → Run
 visited r = record { stage = r .stage; at = r .at; frames = r .frames; visits = r .visits + 1 }
 
--- 'STUCK, FAULT, BUDGET, DEEP end the run at once'. (An expression never ends by the budget: proofs show it of `eval`.)
+-- 'STUCK, FAULT, BUDGET, DEEP end the run at once'. (An expression never ends a run by the budget or the
+-- depth, so the first two lines are never met.)
 unfoldable pub endedAt : Ending → ℕ → Stage
 endedAt Budget k = S.Stuck k
 endedAt Deep k = S.Deep k

@@ -17,6 +17,7 @@ use Rattle.grammar.specs.declared.Arithmetic.the-variants.{Add, Subtract, Multi
 use Rattle.grammar.specs.declared.Fault.the-variants.{Overflow, ZeroDivisor}
 use Rattle.grammar.specs.declared.Number.{Number}
 use Rattle.grammar.specs.declared.Number.the-variants.{Is, Not}
+use Rattle.grammar.proofs.Integers.{signed32-fits, signed32-not}
 use Rattle.grammar.specs.Values.{fitting, quotient, calculated, sameInteger}
 
 -- ════ Sizes ════
@@ -77,11 +78,11 @@ exact-fits op {a} {b} fa fb = size-64 (exact op a b) (size op (size-32 a fa) (si
 
 pub fitting-is : (z : ℤ) → SFits w32 z → fitting z ≡ Is z
 unfolding fitting
-fitting-is z f = rw (lt-ltb (mag z) 2147483648 (f .sfits))
+fitting-is z f = rw (signed32-fits z (f .sfits))
 
 too-large : (z : ℤ) → 2147483648 ≤ mag z → fitting z ≡ Not Overflow
 unfolding fitting
-too-large z h = rw (le-ltb (mag z) 2147483648 h)
+too-large z h = rw (signed32-not z h)
 
 -- the tests of `narrow`
 pub under-smallest : (z : ℤ) → ltZ z (negsuc 2147483647) ≡ true → fitting z ≡ Not Overflow
