@@ -10,10 +10,10 @@ here=$(cd "$(dirname "$0")" && pwd)
 top=$(dirname "$here")
 
 # The crate as rt proved it, in a repository of its own, with the checked modules where an incremental check looks for them; where those can't be taken over, the
-# first check makes them again.
+# first check makes them again. The files are links: an edit puts a new file in a link's place.
 prepare() { # CRATE FOLDER
     mkdir -p "$2/target/log" "$2/target/inc/$1/$build"
-    cp -R "$top/crates.txt" "$top/crates" "$2"
+    cp -alR "$top/crates.txt" "$top/crates" "$2"
     ln -s "$top/target/rlib" "$top/target/stamp" "$2/target"
     cp "$top/target/rlib/$1.rlib/toolchain/checked/"*.oantt "$2/target/inc/$1/$build"
 }
@@ -63,19 +63,19 @@ judge() { # CRATE EDIT LOG
 # Tries as many of the edits as go together; those that don't are left in `pending`.
 batch() { # CRATE FOLDER
     local crate=$2/crates/$1 edit function functions=' ' taken=() left=()
-    rm -rf "$crate"
-    cp -R "$top/crates/$1" "$crate"
+    rm -rf "$crate/src"
+    cp -alR "$top/crates/$1/src" "$crate"
     for edit in "${pending[@]}"; do
         function=$(function_of "$edit")
         rm -rf "$2/before"
-        cp -R "$crate" "$2/before"
+        cp -alR "$crate/src" "$2/before"
         if [[ $functions != *" $function "* ]] && apply "$edit" "$crate"; then
             functions+="$function "
             taken+=("$edit")
         else
             left+=("$edit")
-            rm -rf "$crate"
-            cp -R "$2/before" "$crate"
+            rm -rf "$crate/src"
+            mv "$2/before" "$crate/src"
         fi
     done
     pending=(${left[@]+"${left[@]}"})

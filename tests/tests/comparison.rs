@@ -13,12 +13,7 @@ use reader_tests::subject::*;
 
 #[test]
 fn the_reference_agrees_with_itself_and_reaches_everything() {
-    let count = if cfg!(debug_assertions) {
-        20_000
-    } else {
-        200_000
-    };
-    let report = compare(&REFERENCE, &REFERENCE, 1, count);
+    let report = compare(&REFERENCE, &REFERENCE, 1, 20_000);
     println!("{report}");
     assert!(report.failure.is_none());
     assert_eq!(report.coverage.missing(), Vec::<String>::new());
