@@ -25,11 +25,11 @@ use Rattle.grammar.proofs.Facts.{SoundTable, Sizes, sizes, sound-of-form, follo
 use Rattle.grammar.proofs.Nodes.{node-holds}
 use Rattle.grammar.proofs.Decode.{parsing-tree, rule-tree}
 use Rattle.frames.specs.Frames.{cleared, slotsIn, unset}
-use Rattle.machine.specs.declared.Stage.{Stage}
-use Rattle.machine.specs.declared.Stage.the-variants as St
-use Rattle.machine.specs.declared.Run.{Run}
+use Rattle.stages.specs.declared.Stage.{Stage}
+use Rattle.stages.specs.declared.Stage.the-variants as St
+use Rattle.stages.specs.declared.Run.{Run}
 use Rattle.calls.specs.Calls.{givenBy, returnedBy}
-use Rattle.machine.specs.Step.{Stepped, with}
+use Rattle.stages.specs.Stages.{Stepped, with}
 use Rattle.machine.specs.Drive.{rank, weight, doneAnswer, recorded, started, driven, concludedIn, concluded, rested, ran}
 use Rattle.machine.proofs.StackMachine.{entering, steps, meant}
 use Rattle.machine.proofs.TreeMachine.{measure, read}

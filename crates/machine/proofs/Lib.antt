@@ -1,4 +1,3 @@
-pub mod Arms
 pub mod Weight
 pub mod Others
 pub mod StackMachine

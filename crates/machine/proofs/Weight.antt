@@ -18,15 +18,19 @@ use Rattle.grammar.specs.Values.{Evaluated, value, ends}
 use Rattle.grammar.specs.Run.{byteStands, due}
 use Rattle.grammar.specs.Answer.{deepestVisit}
 use Rattle.frames.specs.Frames.{nodeIn, phaseIn}
-use Rattle.machine.specs.declared.Stage.{Stage}
-use Rattle.machine.specs.declared.Stage.the-variants as S
-use Rattle.machine.specs.declared.Run.{Run}
+use Rattle.stages.specs.declared.Stage.{Stage}
+use Rattle.stages.specs.declared.Stage.the-variants as S
+use Rattle.stages.specs.declared.Run.{Run}
 use Rattle.calls.specs.declared.Given.{Given}
 use Rattle.calls.specs.declared.Given.the-variants.{Are, Ends}
 use Rattle.calls.specs.Calls.{evaluated, returnedBy}
-use Rattle.machine.specs.Step.{Stepped, with, moved, staged, visited, endedAt, consumed, updated, judged, constrained, returned, opened, sequenceMatched, choiceFailed, givenBack, failedIn, called, begun, admitted, matchedIn, backMatched, backFailed, stepIn, stepOf, stepsOf}
+use Rattle.stages.specs.Stages.{Stepped, with, moved, staged, endedAt}
+use Rattle.visits.specs.Visits.{visited, consumed, updated, judged, constrained, opened, called, begun, admitted}
+use Rattle.returns.specs.Returns.{returned, sequenceMatched, choiceFailed, givenBack, failedIn, matchedIn, backMatched, backFailed}
+use Rattle.machine.specs.Step.{stepIn, stepOf, stepsOf}
 use Rattle.machine.specs.Drive.{rank, weight, goesOnIn, goesOn, driven}
-use Rattle.machine.proofs.Arms.{admitted-none, admitted-deep, admitted-fine, matched-rests, failed-rests}
+use Rattle.visits.proofs.Arms.{admitted-none, admitted-deep, admitted-fine}
+use Rattle.returns.proofs.Arms.{matched-rests, failed-rests}
 
 -- ════ The weight falls ════
 

@@ -17,10 +17,11 @@ use Rattle.grammar.specs.Values.{Evaluated}
 use Rattle.grammar.specs.Run.{Tally, matched, withValue, receive, messagePart}
 use Rattle.grammar.specs.Answer.{workWords}
 use Rattle.frames.specs.Frames.{base, slotsIn, nodeIn, phaseIn, fromIn, restored}
-use Rattle.machine.specs.declared.Stage.the-variants as St
-use Rattle.machine.specs.declared.Run.{Run}
+use Rattle.stages.specs.declared.Stage.the-variants as St
+use Rattle.stages.specs.declared.Run.{Run}
 use Rattle.calls.specs.Calls.{givenBy, fourOf, returnedBy}
-use Rattle.machine.specs.Step.{with, moved, endedAt, returned, sequenceMatched, choiceFailed, givenBack, failedIn, matchedIn}
+use Rattle.stages.specs.Stages.{with, moved, endedAt}
+use Rattle.returns.specs.Returns.{returned, sequenceMatched, choiceFailed, givenBack, failedIn, matchedIn}
 use Rattle.machine.proofs.StackMachine.{entering, matching, failing, resume}
 use Rattle.machine.proofs.NodeMachine as Node
 use Rattle.machine.proofs.NodeMachine.{NodeState, NodeFrame, nodeFrame}

@@ -24,13 +24,13 @@ use Rattle.grammar.specs.Values.{Evaluated}
 use Rattle.grammar.specs.Run.{Tally, matched, failed, withValue, judged, fresh, byteStands}
 use Rattle.grammar.specs.Answer.{settingOf, workWords}
 use Rattle.frames.specs.Frames.{base, slotsIn, written, pushed}
-use Rattle.machine.specs.declared.Stage.{Stage}
-use Rattle.machine.specs.declared.Stage.the-variants as St
-use Rattle.machine.specs.declared.Run.{Run}
+use Rattle.stages.specs.declared.Stage.{Stage}
+use Rattle.stages.specs.declared.Stage.the-variants as St
+use Rattle.stages.specs.declared.Run.{Run}
 use Rattle.calls.specs.Calls.{givenBy, fourOf}
-use Rattle.machine.specs.Step.{Stepped, with, staged, endedAt, consumed, updated, constrained, called}
-use Rattle.machine.specs.Step.{opened, begun}
-use Rattle.machine.specs.Step as Word
+use Rattle.stages.specs.Stages.{Stepped, with, staged, endedAt}
+use Rattle.visits.specs.Visits.{consumed, updated, constrained, opened, called, begun}
+use Rattle.visits.specs.Visits as Word
 use Rattle.machine.proofs.StackMachine.{entering, matching, failing, halted, resume, withArguments}
 use Rattle.machine.proofs.NodeMachine as Node
 use Rattle.machine.proofs.NodeMachine.{NodeState, NodeFrames, nodeFrame}

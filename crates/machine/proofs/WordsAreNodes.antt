@@ -14,10 +14,13 @@ use Rattle.grammar.specs.Words.{nodeAt}
 use Rattle.grammar.specs.Run.{Due, fine, noBudget, tooDeep, due}
 use Rattle.grammar.specs.Answer.{deepestVisit, workWords}
 use Rattle.frames.specs.Frames.{slotsIn, nodeIn}
-use Rattle.machine.specs.declared.Stage.{Stage}
-use Rattle.machine.specs.declared.Stage.the-variants as St
-use Rattle.machine.specs.declared.Run.{Run}
-use Rattle.machine.specs.Step.{Stepped, with, visited, admitted, backMatched, backFailed, stepIn, stepOf, stepsOf}
+use Rattle.stages.specs.declared.Stage.{Stage}
+use Rattle.stages.specs.declared.Stage.the-variants as St
+use Rattle.stages.specs.declared.Run.{Run}
+use Rattle.stages.specs.Stages.{Stepped, with}
+use Rattle.visits.specs.Visits.{visited, admitted}
+use Rattle.returns.specs.Returns.{backMatched, backFailed}
+use Rattle.machine.specs.Step.{stepIn, stepOf, stepsOf}
 use Rattle.machine.proofs.StackMachine as Stack
 use Rattle.machine.proofs.StackMachine.{matching, failing}
 use Rattle.machine.proofs.NodeMachine.{NodeState, nodeMoves}

@@ -11,13 +11,14 @@ use Rattle.grammar.specs.Numbers.{DONE, NOMATCH}
 use Rattle.grammar.specs.Words.{ruleWord}
 use Rattle.grammar.specs.Answer.{answered, endingNumber, workWords}
 use Rattle.frames.specs.Frames.{cleared, unset}
-use Rattle.machine.specs.declared.Stage.{Stage}
-use Rattle.machine.specs.declared.Stage.the-variants as S
-use Rattle.machine.specs.declared.Run.{Run}
+use Rattle.stages.specs.declared.Stage.{Stage}
+use Rattle.stages.specs.declared.Stage.the-variants as S
+use Rattle.stages.specs.declared.Run.{Run}
 use Rattle.calls.specs.declared.Given.{Given}
 use Rattle.calls.specs.declared.Given.the-variants.{Are, Ends}
 use Rattle.calls.specs.Calls.{returnedBy}
-use Rattle.machine.specs.Step.{Stepped, with, stepsOf}
+use Rattle.stages.specs.Stages.{Stepped, with}
+use Rattle.machine.specs.Step.{stepsOf}
 
 -- What falls with each step: the visits left, the frames, and the stage. At rest a step changes nothing, so as many steps as this are enough
 unfoldable pub rank : Stage → ℕ

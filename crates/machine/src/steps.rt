@@ -1,12 +1,13 @@
 // One step, and the steps until the run rests.
 ghost use mathlib.Core.Path.{_≡_};
-ghost use Rattle.machine.specs.Step.{with, stepOf};
+ghost use Rattle.stages.specs.Stages.{with};
+ghost use Rattle.machine.specs.Step.{stepOf};
 ghost use Rattle.machine.specs.Drive.{goesOn, driven};
-use crate::Run;
-use crate::Stage;
-use crate::returns::back_failed;
-use crate::returns::back_matched;
-use crate::visits::enter;
+use returns::back_failed;
+use returns::back_matched;
+use stages::Run;
+use stages::Stage;
+use visits::enter;
 
 // One visit, or one return. A run at rest stays as it is.
 pub fn step<'a>(

@@ -13,8 +13,8 @@ use Rattle.grammar.specs.declared.Verdict.the-variants.{Passed, Size, Field, Us
 use Rattle.grammar.specs.Form.{followedBy, unlessOk}
 use Rattle.grammar.specs.Answer.{workWords, check, conclude, answer, leftAfter, workAfter}
 use Rattle.frames.specs.Frames.{cleared, unset}
-use Rattle.machine.specs.declared.Run.{Run}
-use Rattle.machine.specs.Step.{Stepped, with}
+use Rattle.stages.specs.declared.Run.{Run}
+use Rattle.stages.specs.Stages.{Stepped, with}
 use Rattle.machine.specs.Drive.{Ran, recorded, started, driven, concluded, rested, ran}
 use Rattle.machine.proofs.Ranges.{Short}
 use Rattle.machine.proofs.Entry.{ran-answers}

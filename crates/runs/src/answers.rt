@@ -2,15 +2,15 @@
 ghost use mathlib.Core.Path.{_≡_};
 ghost use mathlib.Core.List.{[]};
 ghost use Rattle.grammar.specs.Answer.{answered, endingNumber, number, place, refusal};
-ghost use Rattle.machine.specs.Step.{with};
+ghost use Rattle.stages.specs.Stages.{with};
 ghost use Rattle.machine.specs.Drive.{endedAnswer, doneAnswer, concluded};
 use calls::Given;
 use grammar::Answer;
 use grammar::Ending;
 use grammar::Value;
 use grammar::Verdict;
-use machine::Run;
-use machine::Stage;
+use stages::Run;
+use stages::Stage;
 
 // "Consumed and values are zero or absent unless DONE."
 pub(crate) fn without_values(number: u32, place: u32, visits: u32) -> Answer

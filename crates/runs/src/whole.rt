@@ -6,8 +6,8 @@ use crate::answers::conclude;
 use crate::answers::refuse;
 use grammar::Answer;
 use grammar::Verdict;
-use machine::Run;
-use machine::Stage;
+use stages::Run;
+use stages::Stage;
 use table::records;
 
 // "The start rule runs in the same way with all slots unset"; "a run leaves the first W words zero".

@@ -1,6 +1,6 @@
 use Rattle.machine.proofs.Weight.{falls, driven-step, driven-rest}
 use Rattle.machine.specs.Drive.{weight, driven}
-use Rattle.machine.specs.Step.{Stepped, with}
+use Rattle.stages.specs.Stages.{Stepped, with}
 use lib.ListN.{length}
 use native.Mathlib.Omega.{arith}
 use denote.Ref.{now}

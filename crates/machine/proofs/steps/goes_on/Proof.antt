@@ -1,6 +1,6 @@
 use Rattle.machine.proofs.Others.{goes-other}
 use Rattle.machine.specs.Drive.{goesOnIn}
-use Rattle.machine.specs.declared.Stage.{Stage}
+use Rattle.stages.specs.declared.Stage.{Stage}
 use mathlib.Core.Path.{sym, ap}
 use borrow.Author.Needs.{needs}
 use Rattle.machine.proofs.steps.goes_on.Statement.{statement}

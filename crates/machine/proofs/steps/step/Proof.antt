@@ -1,6 +1,6 @@
 use Rattle.machine.proofs.Others.{step-other}
 use Rattle.machine.specs.Step.{stepIn, stepOf}
-use Rattle.machine.specs.declared.Stage.{Stage}
+use Rattle.stages.specs.declared.Stage.{Stage}
 use denote.Ref.{now}
 use mathlib.Core.Path.{sym, ap, _∙_}
 use borrow.Author.Needs.{needs}

@@ -1,7 +1,7 @@
 use Rattle.machine.specs.Drive.{doneAnswer, concludedIn, concluded}
 use Rattle.grammar.specs.Answer.{endingNumber}
 use Rattle.calls.specs.declared.Given.{Given}
-use Rattle.machine.specs.declared.Stage.{Stage}
+use Rattle.stages.specs.declared.Stage.{Stage}
 use denote.Ref.{now}
 use mathlib.Core.Path.{sym, ap, _∙_}
 use borrow.Author.Needs.{needs}

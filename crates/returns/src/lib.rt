@@ -1,0 +1,205 @@
+// A return to the node of the top frame, whose part has matched or failed. Frame d is the top one.
+ghost use mathlib.Core.Path.{_≡_};
+ghost use Rattle.grammar.specs.Run.{messagePart};
+ghost use Rattle.frames.specs.Frames.{phaseIn, fromIn, written};
+ghost use Rattle.stages.specs.declared.Stage.the-variants as S;
+ghost use Rattle.stages.specs.Stages.{with, moved};
+ghost use Rattle.returns.specs.Returns.{sequenceMatched, choiceFailed, givenBack, returned, matchedIn, failedIn, backMatched, backFailed};
+use calls::Given;
+use calls::receive;
+use calls::returned_by;
+use grammar::Node;
+use grammar::Span;
+use grammar::Value;
+use stages::Run;
+use stages::Stage;
+use stages::ended_at;
+use stages::move_to;
+use stages::stay;
+use table::records;
+
+// A sequence's part matched: on to its second part, or done.
+fn sequence_matched(b: u16, d: u16, run: Run, work: &mut [u32]) -> Run
+    ensures { λ r. ⌜ with r (now (work .exit)) ≡ sequenceMatched (phaseIn (now (work .entry)) d) b d run (now (work .entry)) ⌝ }
+{
+    if frames::phase_in(work, d) == 0 {
+        frames::second(work, d);
+        return stay(run, Stage::Enter(b));
+    }
+    move_to(run, Stage::Matched, run.at, d)
+}
+
+// "both arms start from the place and slots the choice began with."
+fn choice_failed(b: u16, d: u16, run: Run, work: &mut [u32]) -> Run
+    ensures { λ r. ⌜ with r (now (work .exit)) ≡ choiceFailed (phaseIn (now (work .entry)) d) b d run (now (work .entry)) ⌝ }
+{
+    let phase = frames::phase_in(work, d);
+    let from = frames::from_in(work, d);
+    frames::restore(work, d);
+    if phase == 0 {
+        frames::second(work, d);
+        return move_to(run, Stage::Enter(b), from, run.frames);
+    }
+    move_to(run, Stage::Failed, run.at, d)
+}
+
+// "A failing node gives back the slots it began with."
+fn give_back(d: u16, run: Run, work: &mut [u32]) -> Run
+    ensures { λ r. ⌜ with r (now (work .exit)) ≡ givenBack d run (now (work .entry)) ⌝ }
+{
+    frames::restore(work, d);
+    move_to(run, Stage::Failed, run.at, d)
+}
+
+// The part of the message from one position to another, as a value.
+fn message_part(from: u16, to: u16) -> Value
+    ensures { λ r. ⌜ r ≡ messagePart from to ⌝ }
+{
+    if to < from {
+        return Value::Text(Span {
+            literal: false,
+            start: from,
+            length: 0,
+        });
+    }
+    Value::Text(Span {
+        literal: false,
+        start: from,
+        length: to - from,
+    })
+}
+
+// "Bind consumes what its part consumes."
+fn bind_matched(s: u16, d: u16, run: Run, work: &mut [u32]) -> Run
+    ensures { λ r. ⌜ with r (now (work .exit)) ≡ with (moved run S.Matched (run .at) d) (written (now (work .entry)) s (messagePart (fromIn (now (work .entry)) d) (run .at))) ⌝ }
+{
+    let from = frames::from_in(work, d);
+    frames::write_slot(work, s, message_part(from, run.at));
+    move_to(run, Stage::Matched, run.at, d)
+}
+
+// The called body has matched: the caller's slots are back, and its receiving slots take what the rule returned.
+fn call_matched(
+    given: Given,
+    count: u16,
+    s: u16,
+    t: u16,
+    u: u16,
+    v: u16,
+    d: u16,
+    run: Run,
+    work: &mut [u32],
+) -> Run
+    ensures { λ r. ⌜ with r (now (work .exit)) ≡ returned given count s t u v d run (now (work .entry)) ⌝ }
+{
+    match given {
+        Given::Are(values) => {
+            frames::restore(work, d);
+            receive(work, count, s, t, u, v, values);
+            move_to(run, Stage::Matched, run.at, d)
+        }
+        Given::Ends(why, j) => stay(run, ended_at(why, j)),
+    }
+}
+
+// A node without parts has no frame; if one stood there, it would match.
+fn matched_in<'a>(
+    node: Node,
+    words: &[u16],
+    literals: &'a [u8],
+    message: &'a [u8],
+    d: u16,
+    run: Run,
+    work: &mut [u32],
+) -> Run
+    ensures { λ r. ⌜ with r (now (work .exit)) ≡ matchedIn (now (words .entry)) (now (literals .entry)) (now (message .entry)) node d run (now (work .entry)) ⌝ }
+{
+    match node {
+        Node::Sequence(_, b) => sequence_matched(b, d, run, work),
+        // "A round may consume nothing"
+        Node::Repeat(a) => {
+            frames::save(work, d, run.at);
+            stay(run, Stage::Enter(a))
+        }
+        // "not hands on the slots its part left, matched or failed"
+        Node::Not(_) => move_to(run, Stage::Failed, run.at, d),
+        // "evaluates the returned nodes there, then sets its receiving slots left to right"
+        Node::Call(q, _, _, _, _, s, t, u, v) => {
+            let given = returned_by(words, literals, message, work, q);
+            call_matched(
+                given,
+                records::returned_count(words, q),
+                s,
+                t,
+                u,
+                v,
+                d,
+                run,
+                work,
+            )
+        }
+        Node::Bind(s, _) => bind_matched(s, d, run, work),
+        _ => move_to(run, Stage::Matched, run.at, d),
+    }
+}
+
+// A node without parts has no frame; if one stood there, it would give back the slots too.
+fn failed_in(node: Node, d: u16, run: Run, work: &mut [u32]) -> Run
+    ensures { λ r. ⌜ with r (now (work .exit)) ≡ failedIn node d run (now (work .entry)) ⌝ }
+{
+    match node {
+        Node::Choice(_, b) => choice_failed(b, d, run, work),
+        // "then stands as after the last full round"
+        Node::Repeat(_) => {
+            let from = frames::from_in(work, d);
+            frames::restore(work, d);
+            move_to(run, Stage::Matched, from, d)
+        }
+        // "Not consumes nothing"
+        Node::Not(_) => move_to(run, Stage::Matched, frames::from_in(work, d), d),
+        _ => give_back(d, run, work),
+    }
+}
+
+// Without a frame the run rests.
+pub fn back_matched<'a>(
+    words: &[u16],
+    literals: &'a [u8],
+    message: &'a [u8],
+    run: Run,
+    work: &mut [u32],
+) -> Run
+    ensures { λ r. ⌜ with r (now (work .exit)) ≡ backMatched (now (words .entry)) (now (literals .entry)) (now (message .entry)) (run .frames) run (now (work .entry)) ⌝ }
+{
+    if run.frames == 0 {
+        return run;
+    }
+    let d = run.frames - 1;
+    let k = frames::node_in(work, d);
+    matched_in(
+        records::node_at(words, k),
+        words,
+        literals,
+        message,
+        d,
+        run,
+        work,
+    )
+}
+
+pub fn back_failed<'a>(
+    words: &[u16],
+    literals: &'a [u8],
+    message: &'a [u8],
+    run: Run,
+    work: &mut [u32],
+) -> Run
+    ensures { λ r. ⌜ with r (now (work .exit)) ≡ backFailed (now (words .entry)) (now (literals .entry)) (now (message .entry)) (run .frames) run (now (work .entry)) ⌝ }
+{
+    if run.frames == 0 {
+        return run;
+    }
+    let d = run.frames - 1;
+    let k = frames::node_in(work, d);
+    failed_in(records::node_at(words, k), d, run, work)
+}

@@ -1,0 +1,180 @@
+// A visit: the budget first, then the depth, and then what the node says.
+ghost use mathlib.Core.Path.{_≡_};
+ghost use mathlib.Core.Bool.{_&&_};
+ghost use Prim.Native.Nat.{_<_, _+_};
+ghost use lib.Dec.{ltb};
+ghost use Rattle.grammar.specs.Run.{byteStands, due};
+ghost use Rattle.grammar.specs.Answer.{deepestVisit};
+ghost use Rattle.expressions.specs.Meant.{meant};
+ghost use Rattle.stages.specs.Stages.{with};
+ghost use Rattle.visits.specs.Visits.{visited, consumed, opened, updated, judged, constrained, called, begun, admitted};
+use calls::Given;
+use calls::evaluate_four;
+use calls::inherit;
+use expressions::Evaluated;
+use grammar::Node;
+use grammar::Value;
+use stages::Run;
+use stages::Stage;
+use stages::ended_at;
+use stages::move_to;
+use stages::stay;
+use table::records;
+
+// A terminal matches where its byte stands. Positions are at most 65,535: LONG has refused a longer message.
+fn consume(message: &[u8], run: Run, byte: u16) -> Run
+    ensures { λ r. ⌜ r ≡ consumed (byteStands (now (message .entry)) (run .at) byte && ltb (run .at) 65535) run ⌝ }
+{
+    let at = run.at;
+    let place = at as usize;
+    if message.len() <= place {
+        return stay(run, Stage::Failed);
+    }
+    if 65535 <= at {
+        return stay(run, Stage::Failed);
+    }
+    let found = message[place] as u16;
+    if found == byte {
+        move_to(run, Stage::Matched, at + 1, run.frames)
+    } else {
+        stay(run, Stage::Failed)
+    }
+}
+
+// A frame for node k, and its part is due.
+fn open(k: u16, part: u16, run: Run, work: &mut [u32]) -> Run
+    requires { ⌜ run .frames < 256 ⌝ }
+    ensures { λ r. ⌜ with r (now (work .exit)) ≡ opened k part run (now (work .entry)) ⌝ }
+{
+    frames::push(work, run.frames, k, run.at);
+    move_to(run, Stage::Enter(part), run.at, run.frames + 1)
+}
+
+fn update(result: Evaluated, s: u16, run: Run, work: &mut [u32]) -> Run
+    ensures { λ r. ⌜ with r (now (work .exit)) ≡ updated (meant result) s run (now (work .entry)) ⌝ }
+{
+    match result {
+        Evaluated::Is(value) => {
+            frames::write_slot(work, s, value);
+            stay(run, Stage::Matched)
+        }
+        Evaluated::Ends(why, j) => stay(run, ended_at(why, j)),
+    }
+}
+
+// "a constraint isn't Bool (the constraint)": the stage after a constraint's value.
+fn judge(value: Value, k: u16) -> Stage
+    ensures { λ r. ⌜ r ≡ judged value k ⌝ }
+{
+    match value {
+        Value::Bool(b) => if b { Stage::Matched } else { Stage::Failed },
+        _ => Stage::Stuck(k),
+    }
+}
+
+fn constrain(result: Evaluated, k: u16, run: Run) -> Run
+    ensures { λ r. ⌜ r ≡ constrained (meant result) k run ⌝ }
+{
+    match result {
+        Evaluated::Is(value) => stay(run, judge(value, k)),
+        Evaluated::Ends(why, j) => stay(run, ended_at(why, j)),
+    }
+}
+
+// "A call evaluates its arguments, runs the body in fresh slots": node k calls with these values.
+fn call(given: Given, body: u16, k: u16, run: Run, work: &mut [u32]) -> Run
+    requires { ⌜ run .frames < 256 ⌝ }
+    ensures { λ r. ⌜ with r (now (work .exit)) ≡ called given body k run (now (work .entry)) ⌝ }
+{
+    match given {
+        Given::Are(values) => {
+            frames::push(work, run.frames, k, run.at);
+            inherit(work, values);
+            move_to(run, Stage::Enter(body), run.at, run.frames + 1)
+        }
+        Given::Ends(why, j) => stay(run, ended_at(why, j)),
+    }
+}
+
+// Node k is visited. One that is no parsing node does as an empty one.
+fn begin<'a>(
+    node: Node,
+    words: &[u16],
+    literals: &'a [u8],
+    message: &'a [u8],
+    k: u16,
+    run: Run,
+    work: &mut [u32],
+) -> Run
+    requires { ⌜ run .frames < 256 ⌝ }
+    ensures { λ r. ⌜ with r (now (work .exit)) ≡ begun (now (words .entry)) (now (literals .entry)) (now (message .entry)) node k run (now (work .entry)) ⌝ }
+{
+    match node {
+        Node::Terminal(byte) => consume(message, run, byte),
+        Node::Sequence(a, _) => open(k, a, run, work),
+        Node::Choice(a, _) => open(k, a, run, work),
+        Node::Repeat(a) => open(k, a, run, work),
+        Node::Not(a) => open(k, a, run, work),
+        Node::Call(q, a, b, c, d, _, _, _, _) => {
+            let n = records::inherited_count(words, q);
+            let given = evaluate_four(words, literals, message, work, n, a, b, c, d);
+            call(given, records::body(words, q), k, run, work)
+        }
+        Node::Bind(_, a) => open(k, a, run, work),
+        Node::Update(s, e) => update(
+            expressions::evaluate(words, literals, message, work, e),
+            s,
+            run,
+            work,
+        ),
+        Node::Constraint(e) => constrain(
+            expressions::evaluate(words, literals, message, work, e),
+            k,
+            run,
+        ),
+        _ => stay(run, Stage::Matched),
+    }
+}
+
+// A visit made is counted.
+fn count(run: Run) -> Run
+    requires { ⌜ run .visits < 4294967295 ⌝ }
+    ensures { λ r. ⌜ r ≡ visited run ⌝ }
+{
+    let stage = run.stage;
+    Run {
+        stage: stage,
+        at: run.at,
+        frames: run.frames,
+        visits: run.visits + 1,
+    }
+}
+
+// "When a visit is due, the budget (32-bit unsigned) is looked at first, then depth; a visit not made isn't counted."
+pub fn enter<'a>(
+    words: &[u16],
+    literals: &'a [u8],
+    message: &'a [u8],
+    budget: u32,
+    k: u16,
+    run: Run,
+    work: &mut [u32],
+) -> Run
+    ensures { λ r. ⌜ with r (now (work .exit)) ≡ admitted (now (words .entry)) (now (literals .entry)) (now (message .entry)) (due budget deepestVisit (run .frames + 1) (run .visits)) k run (now (work .entry)) ⌝ }
+{
+    if budget <= run.visits {
+        return run;
+    }
+    if 256 <= run.frames {
+        return stay(run, Stage::Deep(k));
+    }
+    begin(
+        records::node_at(words, k),
+        words,
+        literals,
+        message,
+        k,
+        count(run),
+        work,
+    )
+}
