@@ -91,10 +91,9 @@ tried() {
     echo "| wrong programs, each refused | $(edits_of_code) |"
     echo "| bench cases A to O with their variants, proved about the written meaning | $(grep -cE '^ *(∷ )?record \{ mode = ' crates/grammar/proofs/Bench.antt) |"
     local vectors
-    for vectors in table typing runs; do
+    for vectors in table typing runs listing; do
         [ ! -f "tests/vectors/$vectors.stored" ] || echo "| vectors \`$vectors\`: stored answers | $(answers "tests/vectors/$vectors.stored") |"
     done
-    echo "| listing vectors: stored answers | $(wc -l <crates/listing_vectors/stdout) |"
     echo "| console inputs with a stored answer | $(files tests/console '*.console' | wc -l) |"
     echo "| examples with a stored answer | $(files examples '*.console' | wc -l) |"
     echo "| tests of the independent implementation | $(grep -rh --include='*.rs' '#\[test\]' tests/src tests/tests | wc -l) |"

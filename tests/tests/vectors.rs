@@ -14,7 +14,7 @@ fn file(name: &str) -> String {
 
 #[test]
 fn the_reference_gives_what_is_stored() {
-    for name in ["table", "typing", "runs"] {
+    for name in ["table", "typing", "runs", "listing"] {
         let items = read(&file(&format!("{name}.cases"))).expect("cases");
         let stored = file(&format!("{name}.stored"));
         assert_eq!(written(&items, &REFERENCE), stored, "{name}");
@@ -51,8 +51,59 @@ fn a_case_that_says_nothing_or_something_else_is_refused() {
     }
 }
 
-/// The reference, but what it leaves in the work area and the answer are bent after a run.
-struct Bent(fn(&mut Record, &mut [u32], &[u32]));
+const LISTING_A: &str = "listing a
+line 1: rules=1
+line 2: nodes=1
+line 3: literals=4a
+line 4: rule=0 0 0 0 0 0 0 0 0 0 0 0 0 0 0
+line 5: node=1 0 0 0 0 0 0 0 0 0
+room 28 1
+";
+
+fn readings(lines: &str) -> Result<Vec<Item>, String> {
+    read(&format!("{LISTING_A}{lines}\n"))
+}
+
+#[test]
+fn a_reading_that_says_nothing_or_something_else_is_refused() {
+    for (lines, told) in [
+        ("read x: b", "line 8: no listing b"),
+        ("read x: a; line 6 = \"\"", "line 8: no line 6"),
+        (
+            "read x: a; line 1 = \"rules=1\"",
+            "line 8: line 1 is that already",
+        ),
+        (
+            "read x: a; line 1 first \"2\" = \"3\"",
+            "line 8: no \"2\" there",
+        ),
+        ("read x: a\nread x: a", "line 9: a second read x"),
+        ("line 7: node=1", "line 8: line 7 where 6 is due"),
+        ("listing a", "line 8: a second listing a"),
+    ] {
+        assert_eq!(readings(lines).err().as_deref(), Some(told));
+    }
+}
+
+/// After a run: the answer, the work area, and what was lent as one.
+type BendRun = fn(&mut Record, &mut [u32], &[u32]);
+/// After a reading: the answer, words and literals, and what was lent as words.
+type BendRead = fn(&mut ReadAnswer, &mut [u16], &mut [u8], &[u16]);
+/// After a writing: the answer, the text, and what was lent as one.
+type BendWrite = fn(&mut WriteAnswer, &mut [u8], &[u8]);
+
+/// The reference, but what it answers and leaves in lent slices is bent afterwards.
+struct Bent {
+    run: BendRun,
+    read: BendRead,
+    write: BendWrite,
+}
+
+const STRAIGHT: Bent = Bent {
+    run: |_, _, _| {},
+    read: |_, _, _, _| {},
+    write: |_, _, _| {},
+};
 
 impl Subject for Bent {
     fn work_words(&self) -> usize {
@@ -75,14 +126,20 @@ impl Subject for Bent {
     ) -> Record {
         let lent = work.to_vec();
         let mut record = REFERENCE.run(display, words, literals, message, budget, work);
-        (self.0)(&mut record, work, &lent);
+        (self.run)(&mut record, work, &lent);
         record
     }
     fn read(&self, text: &[u8], words: &mut [u16], literals: &mut [u8]) -> ReadAnswer {
-        REFERENCE.read(text, words, literals)
+        let lent = words.to_vec();
+        let mut answer = REFERENCE.read(text, words, literals);
+        (self.read)(&mut answer, words, literals, &lent);
+        answer
     }
     fn write(&self, words: &[u16], literals: &[u8], text: &mut [u8]) -> WriteAnswer {
-        REFERENCE.write(words, literals, text)
+        let lent = text.to_vec();
+        let mut answer = REFERENCE.write(words, literals, text);
+        (self.write)(&mut answer, text, &lent);
+        answer
     }
     fn text_bytes(&self, message: &[u8], literals: &[u8], value: Value) -> Option<Span> {
         REFERENCE.text_bytes(message, literals, value)
@@ -92,11 +149,11 @@ impl Subject for Bent {
 #[test]
 fn a_wrong_run_is_told() {
     let items = cases("display A: a; message \"G1\"; budget 2").expect("a case");
-    let line = |bend| written(&items, &Bent(bend));
+    let line = |run| written(&items, &Bent { run, ..STRAIGHT });
     let right = "display A: DONE 0, consumed 1, visits 2, Text message 0 1 \"G\"; work zeroed\n";
     assert_eq!(line(|_, _, _| {}), right);
     for bend in [
-        (|record, _, _| record.visits += 1) as fn(&mut Record, &mut [u32], &[u32]),
+        (|record, _, _| record.visits += 1) as BendRun,
         |record, _, _| record.consumed = 0,
         |record, _, _| record.place = 1,
         |record, _, _| record.values[3] = Value::Bool(false),
@@ -107,5 +164,54 @@ fn a_wrong_run_is_told() {
         |record, _, lent| record.visits += lent[1] % 3,
     ] {
         assert_ne!(line(bend), right);
+    }
+}
+
+#[test]
+fn a_wrong_reading_is_told() {
+    let items = readings("read x: a; room 29 2\nread y: a; line 5 = \"\"").expect("cases");
+    let lines = |read| written(&items, &Bent { read, ..STRAIGHT });
+    let right = "read x: DONE 0, 28 words, 1 literals: rule 0, node 1, \"J\"; again 88 bytes
+read y: LINE 5
+";
+    assert_eq!(lines(|_, _, _, _| {}), right);
+    for bend in [
+        (|answer, _, _, _| answer.line += 1) as BendRead,
+        |answer, _, _, _| answer.number = 21,
+        |answer, _, _, _| answer.words += 1,
+        |answer, _, _, _| answer.literals = 0,
+        |_, words, _, _| words[27] = 1,
+        |_, words, _, lent| words[4] = lent[4],
+        |_, words, _, _| *words.last_mut().expect("a word") = 0,
+        |_, _, literals, _| literals[0] = 0,
+        |_, _, literals, _| *literals.last_mut().expect("a literal") = 0,
+        |_, words, _, lent| words.copy_from_slice(lent),
+    ] {
+        assert_ne!(lines(bend), right);
+    }
+}
+
+#[test]
+fn a_wrong_writing_is_told() {
+    let items = cases("write x: a; room 200\nwrite y: a; room 9\nwrite z: a; append 0; room 0");
+    let items = items.expect("cases");
+    let lines = |write| written(&items, &Bent { write, ..STRAIGHT });
+    let right = "write x: DONE 0, 138 bytes: rules=1 / nodes=3 / literals= / \
+        rule=1 0 0 0 0 0 1 2 0 0 0 3 0 0 0 / node=2 71 0 0 0 0 0 0 0 0 / \
+        node=8 0 0 0 0 0 0 0 0 0 / node=19 0 0 0 0 0 0 0 0 0 /; back 48 words, 0 literals
+write y: OUT 0
+write z: SIZE 0
+";
+    assert_eq!(lines(|_, _, _| {}), right);
+    for bend in [
+        (|answer, _, _| answer.length += 1) as BendWrite,
+        |answer, _, _| answer.number = 22,
+        |answer, _, _| answer.length = 0,
+        |_, text, _| text.fill(0),
+        |_, text, lent| text.copy_from_slice(lent),
+        |_, text, _| text.iter_mut().skip(138).for_each(|byte| *byte = 0),
+        |_, text, _| text.iter_mut().take(1).for_each(|byte| *byte = b'R'),
+    ] {
+        assert_ne!(lines(bend), right);
     }
 }

@@ -2,7 +2,7 @@
 //! Arguments: the case file, the stored file. How to read them: tests/VECTORS.md.
 
 use reader_tests::subject::{Reference, Subject};
-use reader_tests::vectors::{read, written, Item, WORK_WORDS};
+use reader_tests::vectors::{read, written, WORK_WORDS};
 
 #[cfg(feature = "library")]
 fn proved_reader() -> Option<Box<dyn Subject>> {
@@ -54,10 +54,7 @@ fn compare(cases: &str, stored: &str) -> Result<String, String> {
         }
         names.push(name);
     }
-    let count = items
-        .iter()
-        .filter(|item| matches!(item, Item::Case(_)))
-        .count();
+    let count = items.iter().filter(|item| item.is_case()).count();
     Ok(format!(
         "{cases}: {count} cases as stored ({})",
         names.join(", ")

@@ -1,6 +1,8 @@
 //! Answers as lines. Nothing of an answer is left out but zeros of consumed and visits and absent values at the end.
 
 use super::cases::{Asked, Case};
+use super::listing_answers::{reading, writing};
+use super::listings::Reading;
 use super::pieces::shown;
 use super::WORK_WORDS;
 use crate::numbers::{ALL, DONE};
@@ -14,8 +16,15 @@ pub fn of(case: &Case, subject: &dyn Subject) -> String {
         Asked::Bench => run(case, words, false, subject),
         Asked::Display => run(case, words, true, subject),
         Asked::Text => part(case, handed_out(case.value, case, subject)),
+        Asked::Write => writing(words, &case.literals, case.room, subject),
     };
     let answers: Vec<String> = case.tables.iter().map(one).collect();
+    answers.join(" | ")
+}
+
+pub fn of_reading(case: &Reading, subject: &dyn Subject) -> String {
+    let one = |text: &Vec<u8>| reading(text, case.room, subject);
+    let answers: Vec<String> = case.texts.iter().map(one).collect();
     answers.join(" | ")
 }
 
@@ -26,7 +35,7 @@ fn verdict((number, place): (u32, u32)) -> String {
     numbered(number, place)
 }
 
-fn numbered(number: u32, place: u32) -> String {
+pub fn numbered(number: u32, place: u32) -> String {
     match ALL.iter().find(|known| known.0 == number) {
         Some((_, name)) => format!("{name} {place}"),
         None => format!("number {number} without a name, {place}"),

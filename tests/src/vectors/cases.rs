@@ -13,7 +13,11 @@ pub enum Asked {
     Bench,
     Display,
     Text,
+    Write,
 }
+
+/// More bytes than the largest listing has.
+const ENOUGH_BYTES: usize = 100_000;
 
 #[derive(Clone)]
 pub struct Case {
@@ -26,6 +30,8 @@ pub struct Case {
     pub budget: u32,
     pub work: usize,
     pub value: Value,
+    /// How many bytes are lent to write into.
+    pub room: usize,
 }
 
 type Read<T> = Result<T, String>;
@@ -40,6 +46,7 @@ pub fn read(word: &str, rest: &str, tables: &HashMap<String, Draft>) -> Read<Vec
         "display" => &[("display", Asked::Display)],
         "both" => &[("bench", Asked::Bench), ("display", Asked::Display)],
         "text" => &[("text", Asked::Text)],
+        "write" => &[("write", Asked::Write)],
         _ => return Err(format!("{word} is no question")),
     };
     let one =
@@ -65,6 +72,7 @@ fn case(name: String, asked: Asked, settings: &str, tables: &HashMap<String, Dra
         budget: 1_000,
         work: WORK_WORDS + 3,
         value: Value::Absent,
+        room: ENOUGH_BYTES,
     };
     for setting in settings {
         set(&mut case, setting)?;
@@ -77,6 +85,7 @@ fn set(case: &mut Case, setting: &str) -> Read<()> {
     match word {
         "word" => change(case, rest)?,
         "each" => change_each(case, rest)?,
+        "words" => change_all(case, rest)?,
         "first" => {
             let kept = number(rest.strip_suffix(" words").unwrap_or(rest))?;
             case.tables
@@ -92,6 +101,7 @@ fn set(case: &mut Case, setting: &str) -> Read<()> {
         "budget" => case.budget = number(rest)?,
         "work" => case.work = work(rest)?,
         "value" => case.value = value(rest)?,
+        "room" => case.room = number(rest)?,
         _ => return Err(format!("{word} sets nothing")),
     }
     Ok(())
@@ -138,6 +148,23 @@ fn change_each(case: &mut Case, text: &str) -> Read<()> {
     let held = number(held)?;
     let places = number(first)?..=number(last)?;
     with_each(case, places.map(|place| (place, held)).collect())
+}
+
+/// `words 3 to 47 = 65535` or `words 3 to 47 = place`: all of them in one table.
+fn change_all(case: &mut Case, text: &str) -> Read<()> {
+    let (places, held) = text.split_once(" = ").ok_or("no =".to_string())?;
+    let (first, last) = places.split_once(" to ").ok_or("no to".to_string())?;
+    for place in number::<usize>(first)?..=number(last)? {
+        let held = if held == "place" {
+            place as u16
+        } else {
+            number(held)?
+        };
+        for words in &mut case.tables {
+            *words.get_mut(place).ok_or(format!("no word {place}"))? = held;
+        }
+    }
+    Ok(())
 }
 
 fn with_each(case: &mut Case, changes: Vec<(usize, u16)>) -> Read<()> {

@@ -2,12 +2,16 @@
 
 mod answers;
 mod cases;
+mod line_changes;
+mod listing_answers;
+mod listings;
 mod pieces;
 mod tables;
 
 use crate::random::draft::Draft;
 use crate::subject::Subject;
 use cases::Case;
+use listings::{Listing, Reading};
 use std::collections::{HashMap, HashSet};
 
 /// W, as docs/WORK.md states it.
@@ -17,14 +21,67 @@ pub enum Item {
     /// A sentence of document 01 over its cases: written as it stands.
     Heading(String),
     Case(Box<Case>),
+    Reading(Box<Reading>),
+}
+
+impl Item {
+    /// The name of a case, with its question.
+    fn name(&self) -> Option<&str> {
+        match self {
+            Item::Heading(_) => None,
+            Item::Case(case) => Some(&case.name),
+            Item::Reading(reading) => Some(&reading.name),
+        }
+    }
+
+    pub fn is_case(&self) -> bool {
+        self.name().is_some()
+    }
+}
+
+/// What the lines so far have named.
+#[derive(Default)]
+struct Named {
+    tables: HashMap<String, Draft>,
+    listings: HashMap<String, Listing>,
+    open_table: String,
+    open_listing: String,
+}
+
+impl Named {
+    /// A line of a table or a listing, or the cases that a line makes.
+    fn line(&mut self, word: &str, rest: &str) -> Result<Vec<Item>, String> {
+        match word {
+            "" => {}
+            "table" => self.open_table = tables::begin(&mut self.tables, rest)?,
+            "rule" | "node" | "literals" => {
+                let table = self.tables.get_mut(&self.open_table);
+                tables::add(table.ok_or("no table".to_string())?, word, rest)?;
+            }
+            "listing" => self.open_listing = listings::begin(&mut self.listings, rest)?,
+            "line" | "room" => {
+                let listing = self.listings.get_mut(&self.open_listing);
+                listings::add(listing.ok_or("no listing".to_string())?, word, rest)?;
+            }
+            "read" => {
+                let reading = listings::case(rest, &self.listings)?;
+                return Ok(vec![Item::Reading(Box::new(reading))]);
+            }
+            _ => {
+                let cases = cases::read(word, rest, &self.tables)?;
+                let item = |case| Item::Case(Box::new(case));
+                return Ok(cases.into_iter().map(item).collect());
+            }
+        }
+        Ok(Vec::new())
+    }
 }
 
 /// What a case file says, in order.
 pub fn read(text: &str) -> Result<Vec<Item>, String> {
     let mut items = Vec::new();
-    let mut tables: HashMap<String, Draft> = HashMap::new();
-    let mut named = HashSet::new();
-    let mut open = None;
+    let mut named = Named::default();
+    let mut names = HashSet::new();
     for (index, line) in text.lines().enumerate() {
         let told = |error: String| format!("line {}: {error}", index + 1);
         if line.starts_with("## ") {
@@ -33,23 +90,13 @@ pub fn read(text: &str) -> Result<Vec<Item>, String> {
         }
         let line = pieces::without_comment(line).trim();
         let (word, rest) = pieces::first_word(line);
-        match word {
-            "" => {}
-            "table" => open = Some(tables::begin(&mut tables, rest).map_err(told)?),
-            "rule" | "node" | "literals" => {
-                let name = open.as_ref().ok_or("no table".to_string()).map_err(told)?;
-                let table = tables.get_mut(name).expect("the open table");
-                tables::add(table, word, rest).map_err(told)?;
-            }
-            _ => {
-                for case in cases::read(word, rest, &tables).map_err(told)? {
-                    if !named.insert(case.name.clone()) {
-                        return Err(told(format!("a second {}", case.name)));
-                    }
-                    items.push(Item::Case(Box::new(case)));
-                }
+        let cases = named.line(word, rest).map_err(told)?;
+        for name in cases.iter().filter_map(Item::name) {
+            if !names.insert(name.to_string()) {
+                return Err(told(format!("a second {name}")));
             }
         }
+        items.extend(cases);
     }
     Ok(items)
 }
@@ -58,10 +105,17 @@ pub fn read(text: &str) -> Result<Vec<Item>, String> {
 pub fn written(items: &[Item], subject: &dyn Subject) -> String {
     let mut text = String::new();
     for item in items {
-        match item {
-            Item::Heading(sentence) => text += sentence,
-            Item::Case(case) => text += &format!("{}: {}", case.name, answers::of(case, subject)),
-        }
+        text += &match item {
+            Item::Heading(sentence) => sentence.clone(),
+            Item::Case(case) => format!("{}: {}", case.name, answers::of(case, subject)),
+            Item::Reading(reading) => {
+                format!(
+                    "{}: {}",
+                    reading.name,
+                    answers::of_reading(reading, subject)
+                )
+            }
+        };
         text += "\n";
     }
     text

@@ -26,7 +26,7 @@ pub fn number<T: std::str::FromStr>(text: &str) -> Result<T, String> {
         .map_err(|_| format!("{text:?} isn't a number that fits"))
 }
 
-/// `"text"`, `hex 00ff` or `12 times "text"`.
+/// `"text"`, `hex 00ff`, `12 times "text"` or `counted 4096`: 0, 1, 2 .. 255, 0 ..
 pub fn bytes(text: &str) -> Result<Vec<u8>, String> {
     if let Some((count, rest)) = text.split_once(" times ") {
         return Ok(bytes(rest)?.repeat(number(count)?));
@@ -34,6 +34,11 @@ pub fn bytes(text: &str) -> Result<Vec<u8>, String> {
     if let Some(pairs) = text.strip_prefix("hex ") {
         let read = crate::reference::listing::hex(pairs.as_bytes());
         return read.ok_or(format!("{pairs:?} isn't hex"));
+    }
+    if let Some(count) = text.strip_prefix("counted ") {
+        return Ok((0..number(count)?)
+            .map(|index: usize| index as u8)
+            .collect());
     }
     let inside = text
         .strip_prefix('"')
