@@ -220,3 +220,15 @@ cases =
 pub bench : map given cases ≡ map (λ (c : Case). c .expected) cases
 unfolding given cases tableA tableE tableF tableG tableH tableI tableJ tableK tableL tableM tableN tableO tabulate smallestFailing howMany signed nodes nodeFor nodeAt node exprOf parsingOf exprWith exprAt parsingWith parsingAt ruleAt grammarOf F.fieldSorts F.fieldSort F.ruleSorts F.fits F.ruleWordOk F.nodeWordOk F.wordOk F.usesNode F.wordUses F.uses F.every F.sizeOk F.tableCheck same T.operatorType T.exprType T.has T.haveAll T.assign T.assignAll T.typeOf T.typedAfter T.typedRule T.untyped L.fitting L.quotient L.calculated L.spanBytes L.textBytes L.sameTexts L.equal L.lookLeft L.operate L.negated R.eval R.evalAll R.next R.withValue R.judged R.fresh R.receive R.byteStands R.rounds R.due R.returning R.visit R.admit R.apply A.number A.place A.endingNumber A.typeRules typeCheck A.check A.run A.answerOf A.refusal A.conclude answer
 bench = refl
+
+-- ════ 'smallest such rule' ════
+
+-- rule 0 is right, and rules 1 and 2 break the type rules: their constraints are Integers
+twoUntyped : List ℕ
+twoUntyped =
+    (3 ∷ 5 ∷ 0 ∷ [])
+    ++ (records 15 (body 0 ∷ body 2 ∷ body 4 ∷ []) ++ records 10 (empty ∷ integer 0 1 ∷ constraint 1 ∷ integer 0 1 ∷ constraint 3 ∷ []))
+
+pub smallest-told : typeCheck twoUntyped [] ≡ Untyped 1
+unfolding twoUntyped tabulate smallestFailing howMany signed nodes nodeFor nodeAt exprOf parsingOf exprWith exprAt parsingWith parsingAt ruleAt grammarOf F.fieldSorts F.fieldSort F.ruleSorts F.fits F.ruleWordOk F.nodeWordOk F.wordOk F.usesNode F.wordUses F.uses F.every F.sizeOk F.tableCheck T.exprType T.has T.haveAll T.typeOf T.typedAfter T.typedRule T.untyped A.typeRules typeCheck
+smallest-told = refl

@@ -2,6 +2,7 @@
 
 pub mod check;
 pub mod console;
+mod expressions;
 pub mod listing;
 pub mod run;
 pub mod table;

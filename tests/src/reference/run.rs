@@ -6,15 +6,12 @@
 //! - The returned nodes of the start rule are evaluated after its body matched;
 //!   STUCK or FAULT there ends the run with the visits made so far.
 //! - A receiving slot named twice keeps the later value.
-//! - Arithmetic and greater look at both types first; FAULT only comes when
-//!   both are Integers. Its place is the operator.
 //! - A bound Text stands where its part began, also when it is empty.
 //! - A choice, sequence, bind, repeat or call that fails gives back its own
 //!   first slots even when the part that failed was a not.
 //! - LONG and WORK leave the work area alone; a run never reads it.
 
 use super::table::*;
-use super::text::bytes_at;
 use super::{check::check, types::type_check};
 use crate::numbers::*;
 use crate::subject::{Home, Record, Span, Value};
@@ -35,15 +32,15 @@ pub struct Lent<'a> {
 pub type KindCounts = [u64; KINDS];
 
 /// `Value::Absent` is unset.
-type Slots = [Value; SLOTS];
+pub(super) type Slots = [Value; SLOTS];
 
 /// What ends the run at once.
-struct Stop {
+pub(super) struct Stop {
     number: u32,
     node: usize,
 }
 
-type Stopping<T> = Result<T, Stop>;
+pub(super) type Stopping<T> = Result<T, Stop>;
 
 pub fn run(lent: &Lent, work: &mut [u32], work_words: usize) -> Record {
     observe(lent, work, work_words).0
@@ -84,12 +81,12 @@ fn refused(lent: &Lent, work: usize, work_words: usize) -> Option<Record> {
     (work < work_words).then(|| Record::refusal(WORK, 0))
 }
 
-struct Run<'a> {
-    table: Table<'a>,
-    message: &'a [u8],
+pub(super) struct Run<'a> {
+    pub(super) table: Table<'a>,
+    pub(super) message: &'a [u8],
     budget: u32,
     visits: u32,
-    kinds: KindCounts,
+    pub(super) kinds: KindCounts,
 }
 
 impl Run<'_> {
@@ -271,86 +268,8 @@ impl Run<'_> {
         }
         Ok(Some(end))
     }
-
-    fn evaluate(&mut self, node: usize, slots: &Slots) -> Stopping<Value> {
-        let kind = self.table.kind(node);
-        self.kinds[kind as usize] += 1;
-        let first = self.table.part(node, 0);
-        let second = self.table.part(node, 1);
-        match kind {
-            BOOL => Ok(Value::Bool(first == 1)),
-            INTEGER => Ok(Value::Integer((first << 16 | second) as u32 as i32)),
-            TEXT => Ok(Value::Text(Span {
-                home: Home::Literals,
-                start: first as u32,
-                length: second as u32,
-            })),
-            SLOT => match slots[first] {
-                Value::Absent => stop(STUCK, node),
-                value => Ok(value),
-            },
-            AND | OR => self.and_or(node, slots),
-            LOGIC_NOT => match self.evaluate(first, slots)? {
-                Value::Bool(value) => Ok(Value::Bool(!value)),
-                _ => stop(STUCK, node),
-            },
-            _ => {
-                let left = self.evaluate(first, slots)?;
-                let right = self.evaluate(second, slots)?;
-                self.both(node, left, right)
-            }
-        }
-    }
-
-    /// "And, or look at the left value first"
-    fn and_or(&mut self, node: usize, slots: &Slots) -> Stopping<Value> {
-        let decides = self.table.kind(node) == OR;
-        match self.evaluate(self.table.part(node, 0), slots)? {
-            Value::Bool(left) if left == decides => return Ok(Value::Bool(left)),
-            Value::Bool(_) => {}
-            _ => return stop(STUCK, node),
-        }
-        match self.evaluate(self.table.part(node, 1), slots)? {
-            Value::Bool(right) => Ok(Value::Bool(right)),
-            _ => stop(STUCK, node),
-        }
-    }
-
-    fn both(&self, node: usize, left: Value, right: Value) -> Stopping<Value> {
-        if self.table.kind(node) == EQUAL {
-            return match self.equal(left, right) {
-                Some(same) => Ok(Value::Bool(same)),
-                None => stop(STUCK, node),
-            };
-        }
-        let (Value::Integer(left), Value::Integer(right)) = (left, right) else {
-            return stop(STUCK, node);
-        };
-        let result = match self.table.kind(node) {
-            GREATER => return Ok(Value::Bool(left > right)),
-            ADD => left.checked_add(right),
-            SUBTRACT => left.checked_sub(right),
-            MULTIPLY => left.checked_mul(right),
-            _ => left.checked_div(right),
-        };
-        match result {
-            Some(value) => Ok(Value::Integer(value)),
-            None => stop(FAULT, node),
-        }
-    }
-
-    /// Nothing when the types are two.
-    fn equal(&self, left: Value, right: Value) -> Option<bool> {
-        let bytes = |span| bytes_at(self.message, self.table.literals, span);
-        match (left, right) {
-            (Value::Bool(left), Value::Bool(right)) => Some(left == right),
-            (Value::Integer(left), Value::Integer(right)) => Some(left == right),
-            (Value::Text(left), Value::Text(right)) => Some(bytes(left) == bytes(right)),
-            _ => None,
-        }
-    }
 }
 
-fn stop<T>(number: u32, node: usize) -> Stopping<T> {
+pub(super) fn stop<T>(number: u32, node: usize) -> Stopping<T> {
     Err(Stop { number, node })
 }
