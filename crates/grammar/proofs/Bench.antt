@@ -224,7 +224,7 @@ bench = refl
 -- ════ 'smallest such rule' ════
 
 -- rule 0 is right, and rules 1 and 2 break the type rules: their constraints are Integers
-twoUntyped : List ℕ
+pub twoUntyped : List ℕ
 twoUntyped =
     (3 ∷ 5 ∷ 0 ∷ [])
     ++ (records 15 (body 0 ∷ body 2 ∷ body 4 ∷ []) ++ records 10 (empty ∷ integer 0 1 ∷ constraint 1 ∷ integer 0 1 ∷ constraint 3 ∷ []))
