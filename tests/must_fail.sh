@@ -1,10 +1,12 @@
 #!/usr/bin/env bash
 # must_fail.sh [CRATE..]: tries the wrong programs, crates/CRATE/must-fail/code/*.edit. Each is an edit of the crate's code in the form of rt's must-fail edits, with a
-# line `refused: FUNCTION`: that function's proof must be refused because a fact fails, and not because the proof has lost its shape.
+# line `refused: FUNCTION` or `refused: FUNCTION FACT`: that function's proof (that fact of it) must be refused because a fact fails, and not because the proof has lost
+# its shape.
 #
 # rt itself tries the edits that stand in must-fail/ directly, each by a check of the whole crate from nothing. Two things make it seconds here. What rt has proved of
 # the crate as it stands is taken over, and only what the edits change is checked again. And a proof knows of other functions only their contracts, which no edit
-# touches: so edits of different functions are tried together, each judged by what the prover says of its own function. Needs what `rt check` leaves in target/.
+# touches: so edits of different functions, or of different arms of one match whose facts are named, are tried together, each judged by what the prover says of its own.
+# Needs what `rt check` leaves in target/.
 set -euo pipefail
 here=$(cd "$(dirname "$0")" && pwd)
 top=$(dirname "$here")
@@ -41,36 +43,45 @@ apply() { # EDIT CRATE-FOLDER
     done <"$1"
 }
 
-function_of() { # EDIT
+# The function, and the fact if one is named.
+refused_of() { # EDIT
     sed -n 's/^refused: //p' "$1"
 }
 
 # What the log says of one edit.
 judge() { # CRATE EDIT LOG
-    local name function errors
+    local name function fact errors
     name=$1/$(basename "$2" .edit)
-    function=$(function_of "$2")
-    errors=$(grep "crates/$1/proofs/${function//:://}/Proof.antt:[0-9:]* error" "$3" | grep -v 'was not admitted' || true)
+    read -r function fact <<<"$(refused_of "$2")"
+    errors=$(grep "crates/$1/proofs/${function//:://}/Proof.antt:[0-9:]* error${fact:+: \`$fact\`}" "$3" | grep -v 'was not admitted' || true)
     # a function that rattle proves by itself has no proof file
     [ -n "$errors" ] || errors=$(grep "^fn $1::$function: no" "$3" || true)
     case $errors in
-    '') echo "$name: NOT REFUSED at $function"; return 1 ;;
+    '') echo "$name: NOT REFUSED at $function $fact"; return 1 ;;
     *'has no `Need-'*) echo "$name: refused for the shape of the proof of $function"; return 1 ;;
-    *) echo "$name: refused at $function" ;;
+    *) echo "$name: refused at $function${fact:+, $fact}" ;;
+    esac
+}
+
+# Is nothing tried yet of this function, or only other facts of it?
+apart() { # TRIED FUNCTION FACT
+    case $1 in
+    *" $2/ "* | *" $2/$3 "*) return 1 ;;
+    *" $2/"*) [ -n "$3" ] ;;
     esac
 }
 
 # Tries as many of the edits as go together; those that don't are left in `pending`.
 batch() { # CRATE FOLDER
-    local crate=$2/crates/$1 edit function functions=' ' taken=() left=()
+    local crate=$2/crates/$1 edit function fact tried=' ' taken=() left=()
     rm -rf "$crate/src"
     cp -alR "$top/crates/$1/src" "$crate"
     for edit in "${pending[@]}"; do
-        function=$(function_of "$edit")
+        read -r function fact <<<"$(refused_of "$edit")"
         rm -rf "$2/before"
         cp -alR "$crate/src" "$2/before"
-        if [[ $functions != *" $function "* ]] && apply "$edit" "$crate"; then
-            functions+="$function "
+        if apart "$tried" "$function" "$fact" && apply "$edit" "$crate"; then
+            tried+="$function/$fact "
             taken+=("$edit")
         else
             left+=("$edit")
