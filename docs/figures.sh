@@ -86,7 +86,8 @@ tried() {
     echo '|---|--:|'
     echo "| functions, each proved | $(grep -hcE '^ *(pub |pub\(crate\) )?(extern "C" )?fn ' crates/*/src/*.rt | awk '{ n += $1 } END { print n }') |"
     echo "| public functions of libraries (docs/PROMISES.md) | $(tests/promises.sh --list | wc -l) |"
-    echo "| axioms | $(find crates -name '*.antt' -o -name '*.rt' | xargs cat | grep -cE '^ *axiom |Prim\.Axiom' || true) |"
+    echo "| axioms in our files | $(find crates -name '*.antt' -o -name '*.rt' | xargs cat | grep -cE '^ *axiom |Prim\.Axiom' || true) |"
+    echo "| C functions of the kit whose contracts the program \`console\` assumes | $(sed -nE 's/^axioms ([a-z]+: [^(]*[^( ]) \(.*/\1/p' "$log" | tail -n 1 | sed 's/^$/–/') |"
     echo "| wrong definitions, each refused | $(($(edits crates) - $(edits_of_code))) |"
     echo "| wrong programs, each refused | $(edits_of_code) |"
     echo "| bench cases A to O with their variants, proved about the written meaning | $(grep -cE '^ *(∷ )?record \{ mode = ' crates/grammar/proofs/Bench.antt) |"
