@@ -99,7 +99,8 @@ batch() { # CRATE FOLDER
 
 one_crate() { # CRATE
     local folder began=$SECONDS failed=0 pending
-    folder=$(mktemp -d)
+    # beside what is proved: links reach no other file system
+    folder=$(mktemp -d "$top/target/wrong.XXXXXX")
     # shellcheck disable=SC2064
     trap "rm -rf '$folder'" EXIT
     prepare "$1" "$folder"
