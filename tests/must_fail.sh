@@ -1,11 +1,12 @@
 #!/usr/bin/env bash
 # must_fail.sh [CRATE..]: tries the wrong programs, crates/CRATE/must-fail/code/*.edit. Each is an edit of the crate's code in the form of rt's must-fail edits, with a
 # line `refused: FUNCTION` or `refused: FUNCTION FACT`: that function's proof (that fact of it) must be refused because a fact fails, and not because the proof has lost
-# its shape.
+# its shape. A wrong program that has other calls or branches than the right one can't but lose it: its edit says `shape: changes`, and that it is wrong is then shown by an
+# edit of the definition and by a vector.
 #
 # rt itself tries the edits that stand in must-fail/ directly, each by a check of the whole crate from nothing. Two things make it seconds here. What rt has proved of
 # the crate as it stands is taken over, and only what the edits change is checked again. And a proof knows of other functions only their contracts, which no edit
-# touches: so edits of different functions, or of different arms of one match whose facts are named, are tried together, each judged by what the prover says of its own.
+# touches: so edits of different functions, or of different facts of one function that are named, are tried together, each judged by what the prover says of its own.
 # Needs what `rt check` leaves in target/.
 set -euo pipefail
 here=$(cd "$(dirname "$0")" && pwd)
@@ -58,7 +59,11 @@ judge() { # CRATE EDIT LOG
     [ -n "$errors" ] || errors=$(grep "^fn $1::$function: no" "$3" || true)
     case $errors in
     '') echo "$name: NOT REFUSED at $function $fact"; return 1 ;;
-    *'has no `Need-'*) echo "$name: refused for the shape of the proof of $function"; return 1 ;;
+    *'has no `Need-'*)
+        if grep -q '^shape: changes$' "$2"; then echo "$name: refused at $function, which has another shape"; return 0; fi
+        echo "$name: refused for the shape of the proof of $function"
+        return 1
+        ;;
     *) echo "$name: refused at $function${fact:+, $fact}" ;;
     esac
 }
