@@ -1,6 +1,8 @@
 //! Styrmflo, reader of message grammars for lift displays: a second, plain
 //! reading of document 01 and the means to compare it with the proved reader.
 
+#[cfg(feature = "library")]
+pub mod boundary;
 pub mod compare;
 #[cfg(feature = "library")]
 pub mod library;

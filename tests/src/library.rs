@@ -1,5 +1,6 @@
 //! The proved reader, through its static library: safe wrappers over the exported functions (docs/FIRMWARE.md).
 
+use crate::reference::run::Lent;
 use crate::subject::{Home, ReadAnswer, Record, Span, Subject, Value, WriteAnswer};
 
 extern "C" {
@@ -96,6 +97,73 @@ fn words_of(value: Value) -> Option<(u32, u32)> {
     })
 }
 
+/// The exported functions with the answer's words in a slice that the caller
+/// lends, whatever its length.
+impl Library {
+    pub fn run_into(&self, lent: &Lent, work: &mut [u32], twelve: &mut [u32]) {
+        let run = if lent.display {
+            styrmflo_display
+        } else {
+            styrmflo_bench
+        };
+        unsafe {
+            run(
+                lent.words.as_ptr(),
+                lent.words.len(),
+                lent.literals.as_ptr(),
+                lent.literals.len(),
+                lent.message.as_ptr(),
+                lent.message.len(),
+                lent.budget,
+                work.as_mut_ptr(),
+                work.len(),
+                twelve.as_mut_ptr(),
+                twelve.len(),
+            );
+        }
+    }
+
+    pub fn read_into(
+        &self,
+        text: &[u8],
+        words: &mut [u16],
+        literals: &mut [u8],
+        answer: &mut [u64],
+    ) {
+        unsafe {
+            styrmflo_read(
+                text.as_ptr(),
+                text.len(),
+                words.as_mut_ptr(),
+                words.len(),
+                literals.as_mut_ptr(),
+                literals.len(),
+                answer.as_mut_ptr(),
+                answer.len(),
+            );
+        }
+    }
+
+    pub fn write_into(&self, words: &[u16], literals: &[u8], text: &mut [u8], answer: &mut [u64]) {
+        unsafe {
+            styrmflo_write(
+                words.as_ptr(),
+                words.len(),
+                literals.as_ptr(),
+                literals.len(),
+                text.as_mut_ptr(),
+                text.len(),
+                answer.as_mut_ptr(),
+                answer.len(),
+            );
+        }
+    }
+
+    pub fn text_word(&self, message: usize, literals: usize, tag: u32, payload: u32) -> u64 {
+        unsafe { styrmflo_text(message, literals, tag, payload) }
+    }
+}
+
 impl Subject for Library {
     fn work_words(&self) -> usize {
         WORK_WORDS
@@ -132,27 +200,15 @@ impl Subject for Library {
         budget: u32,
         work: &mut [u32],
     ) -> Record {
-        let run = if display {
-            styrmflo_display
-        } else {
-            styrmflo_bench
+        let lent = Lent {
+            display,
+            words,
+            literals,
+            message,
+            budget,
         };
         let mut twelve = [0u32; 12];
-        unsafe {
-            run(
-                words.as_ptr(),
-                words.len(),
-                literals.as_ptr(),
-                literals.len(),
-                message.as_ptr(),
-                message.len(),
-                budget,
-                work.as_mut_ptr(),
-                work.len(),
-                twelve.as_mut_ptr(),
-                twelve.len(),
-            );
-        }
+        self.run_into(&lent, work, &mut twelve);
         let at = |i: usize| value(twelve[4 + 2 * i], twelve[5 + 2 * i]);
         Record {
             number: twelve[0],
@@ -165,18 +221,7 @@ impl Subject for Library {
 
     fn read(&self, text: &[u8], words: &mut [u16], literals: &mut [u8]) -> ReadAnswer {
         let mut answer = [0u64; 4];
-        unsafe {
-            styrmflo_read(
-                text.as_ptr(),
-                text.len(),
-                words.as_mut_ptr(),
-                words.len(),
-                literals.as_mut_ptr(),
-                literals.len(),
-                answer.as_mut_ptr(),
-                answer.len(),
-            );
-        }
+        self.read_into(text, words, literals, &mut answer);
         ReadAnswer {
             number: answer[0] as u32,
             line: answer[1] as u32,
@@ -187,18 +232,7 @@ impl Subject for Library {
 
     fn write(&self, words: &[u16], literals: &[u8], text: &mut [u8]) -> WriteAnswer {
         let mut answer = [0u64; 4];
-        unsafe {
-            styrmflo_write(
-                words.as_ptr(),
-                words.len(),
-                literals.as_ptr(),
-                literals.len(),
-                text.as_mut_ptr(),
-                text.len(),
-                answer.as_mut_ptr(),
-                answer.len(),
-            );
-        }
+        self.write_into(words, literals, text, &mut answer);
         WriteAnswer {
             number: answer[0] as u32,
             length: answer[2] as usize,
@@ -208,7 +242,7 @@ impl Subject for Library {
     /// Nothing for a Text that no answer can hold: over 16 bits it has no words to ask with.
     fn text_bytes(&self, message: &[u8], literals: &[u8], value: Value) -> Option<Span> {
         let (tag, payload) = words_of(value)?;
-        let word = unsafe { styrmflo_text(message.len(), literals.len(), tag, payload) };
+        let word = self.text_word(message.len(), literals.len(), tag, payload);
         Some(Span {
             home: if word >> 32 == 1 {
                 Home::Literals

@@ -1,6 +1,8 @@
-//! Compares the proved reader, through its static library, with the reference.
+//! Compares the proved reader, through its static library, with the reference,
+//! and tries what only the library has: tags and lent slices of every length.
 //! Arguments: how many cases, the first seed.
 
+use reader_tests::boundary::try_boundary;
 use reader_tests::compare::{compare, compare_all_kinds};
 use reader_tests::library::{Library, WORK_WORDS};
 use reader_tests::subject::Reference;
@@ -26,4 +28,9 @@ fn main() {
         std::process::exit(1);
     }
     println!("every kind word from 0 to 65535: the same");
+    if let Err(difference) = try_boundary() {
+        println!("{difference}");
+        std::process::exit(1);
+    }
+    println!("tags without a row, answers in slices of every length: as stated");
 }
