@@ -1,6 +1,7 @@
 #!/usr/bin/env bash
 # promises.sh: holds docs/PROMISES.md to the code. Every public function of a library crate stands there by its full name, `crate::module::function`, and no other does;
 # every wrong program or definition (`crate/name.edit`) and every definition or law (`crate/specs/Module.name`) that it names is there.
+# And each has a contract of the kind that the page speaks of: an `ensures`, and no `requires`.
 # promises.sh --list prints the public functions.
 set -euo pipefail
 cd "$(dirname "$0")/.."
@@ -25,6 +26,18 @@ public_functions() {
     done | sort
 }
 
+# The `pub fn` of a library whose contract has a `requires`, or no `ensures`. (Of a private module too: what only its own crate calls is `pub(crate)`.)
+without_promise() {
+    local library
+    for library in crates/*/src/lib.rt; do
+        awk '
+            /^ *pub (extern "C" )?fn / { name = $0; sub(/.*fn /, "", name); sub(/[^a-z_0-9].*/, "", name); asks = says = 0 }
+            name && /^ *requires / { asks = 1 }
+            name && /^ *ensures / { says = 1 }
+            name && /^ *\{$/ { if (asks || !says) print FILENAME ": " name; name = "" }' "$(dirname "$library")"/*.rt
+    done
+}
+
 # What stands on the page in code font and has this form.
 named() { # PATTERN
     grep -oE "\`$1\`" "$page" | tr -d '`' | sort -u || true
@@ -45,6 +58,8 @@ functions=$(public_functions)
 there=$(named '[a-z_0-9]+(::[a-z_0-9]+)+')
 for function in $(comm -23 <(echo "$functions") <(echo "$there")); do tell "$function is missing"; done
 for function in $(comm -13 <(echo "$functions") <(echo "$there")); do tell "$function is no public function"; done
+
+while read -r function; do tell "$function has a \`requires\`, or no \`ensures\`"; done < <(without_promise)
 
 for edit in $(named '[a-z_0-9]+/[a-z_0-9]+\.edit'); do
     crate=crates/${edit%%/*}/must-fail
