@@ -1,6 +1,7 @@
 //! The two contenders, and the time each takes for the same job.
 
-use reader_tests::library::{Library, WORK_WORDS};
+use reader_tests::exported::WORK_WORDS;
+use reader_tests::library::Library;
 use reader_tests::subject::{Reference, Subject};
 use std::time::{Duration, Instant};
 

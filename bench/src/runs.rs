@@ -2,7 +2,7 @@
 
 use crate::contenders::{measure, Times};
 use crate::grammars::Work;
-use reader_tests::library::WORK_WORDS;
+use reader_tests::exported::WORK_WORDS;
 use reader_tests::numbers::DONE;
 use reader_tests::reference::run::{observe, Lent};
 use reader_tests::reference::table::BOOL;

@@ -2,7 +2,7 @@
 //! for the answer that is too short (docs/DECISIONS.md, "Slices that a caller
 //! lends too short"): document 01 has no row for either.
 
-use crate::library::{Library, WORK_WORDS};
+use crate::exported::{Exports, WORK_WORDS};
 use crate::reference::run::Lent;
 use std::fmt::Debug;
 
@@ -13,33 +13,34 @@ const CASE_A: &str = "rules=1\nnodes=3\nliterals=\nrule=1 0 0 0 0 0 1 2 0 0 0 3 
 /// What stands in a lent slice before the call.
 const DIRT: u8 = 0xa5;
 
-pub fn try_boundary() -> Result<(), String> {
+pub fn try_boundary(exports: &dyn Exports) -> Result<(), String> {
+    expect("W", &exports.work_words(), &WORK_WORDS)?;
     let mut words = [0u16; 48];
-    let mut read = [0u64; 4];
-    Library.read_into(CASE_A.as_bytes(), &mut words, &mut [], &mut read);
+    let mut read = [u64::from(DIRT); 4];
+    exports.read_into(CASE_A.as_bytes(), &mut words, &mut [], &mut read);
     expect("case A is read", &read, &[0, 0, 48, 0])?;
-    unknown_tags()?;
-    short_records(&words)?;
-    short_reading(&read)?;
-    short_writing(&words)
+    unknown_tags(exports)?;
+    short_records(exports, &words)?;
+    short_reading(exports, &read)?;
+    short_writing(exports, &words)
 }
 
 /// A tag that has no row stands for an absent value: no bytes.
-fn unknown_tags() -> Result<(), String> {
+fn unknown_tags(exports: &dyn Exports) -> Result<(), String> {
     for tag in [0, 1, 2, 5, 6, 255, 256, 65_535, 65_536, u32::MAX] {
         for payload in [0, 1, 65_537, u32::MAX] {
-            let word = Library.text_word(65_535, 4_096, tag, payload);
+            let word = exports.text_word(65_535, 4_096, tag, payload);
             expect(&format!("the bytes of tag {tag}"), &word, &0)?;
         }
     }
     expect(
         "a part of the message",
-        &Library.text_word(2, 0, 3, 65_537),
+        &exports.text_word(2, 0, 3, 65_537),
         &65_537,
     )
 }
 
-fn short_records(words: &[u16]) -> Result<(), String> {
+fn short_records(exports: &dyn Exports, words: &[u16]) -> Result<(), String> {
     let whole = [0, 0, 1, 2, 3, 1, 0, 0, 0, 0, 0, 0];
     for display in [false, true] {
         let lent = Lent {
@@ -51,22 +52,22 @@ fn short_records(words: &[u16]) -> Result<(), String> {
         };
         fitting(&whole, |twelve| {
             let mut work = vec![u32::from(DIRT); WORK_WORDS];
-            Library.run_into(&lent, &mut work, twelve);
+            exports.run_into(&lent, &mut work, twelve);
         })?;
     }
     Ok(())
 }
 
-fn short_reading(whole: &[u64]) -> Result<(), String> {
+fn short_reading(exports: &dyn Exports, whole: &[u64]) -> Result<(), String> {
     fitting(whole, |answer| {
-        Library.read_into(CASE_A.as_bytes(), &mut [0; 48], &mut [], answer);
+        exports.read_into(CASE_A.as_bytes(), &mut [0; 48], &mut [], answer);
     })
 }
 
-fn short_writing(words: &[u16]) -> Result<(), String> {
+fn short_writing(exports: &dyn Exports, words: &[u16]) -> Result<(), String> {
     let length = CASE_A.len();
     fitting(&[0, 0, length as u64, 0], |answer| {
-        Library.write_into(words, &[], &mut vec![DIRT; length], answer);
+        exports.write_into(words, &[], &mut vec![DIRT; length], answer);
     })
 }
 

@@ -1,9 +1,9 @@
 //! A thing under test, seen only through slices and answers.
 //!
 //! `Subject` is the reader as functions, `Console` the console: bytes in, bytes
-//! out. The reference is both. The static library (`library`) is a `Subject`
-//! alone, the console program (`program`) a `Console` alone; the comparison
-//! knows nothing but the traits.
+//! out. The reference is both. The exported functions (`exported`) are a
+//! `Subject` alone, the console program (`program`) a `Console` alone; the
+//! comparison knows nothing but the traits.
 
 use crate::reference;
 
@@ -27,6 +27,12 @@ pub enum Value {
     Bool(bool),
     Integer(i32),
     Text(Span),
+    /// Words at the boundary that stand for no value: a tag without a row, or a
+    /// payload that its tag can't have. It is like no value of the reference's.
+    Stray {
+        tag: u32,
+        payload: u32,
+    },
 }
 
 #[derive(Clone, Copy, Debug, PartialEq, Eq)]

@@ -4,7 +4,7 @@ mod common;
 
 use common::REFERENCE;
 use reader_tests::compare::consoles::{compare_consoles, FEW};
-use reader_tests::compare::{compare, compare_all_kinds};
+use reader_tests::compare::{compare, compare_kinds};
 use reader_tests::numbers::*;
 use reader_tests::random::cases::Case;
 use reader_tests::random::prng::Random;
@@ -15,21 +15,19 @@ use reader_tests::subject::*;
 fn the_reference_agrees_with_itself_and_reaches_everything() {
     let report = compare(&REFERENCE, &REFERENCE, 1, 20_000);
     println!("{report}");
-    assert!(report.failure.is_none());
-    assert_eq!(report.coverage.missing(), Vec::<String>::new());
+    assert_eq!(report.verdict(), Ok(()));
 }
 
 #[test]
 fn few_console_inputs_reach_everything() {
     let report = compare_consoles(&REFERENCE, &REFERENCE, 1, FEW);
     println!("{report}");
-    assert!(report.failure.is_none());
-    assert_eq!(report.coverage.missing(), Vec::<String>::new());
+    assert_eq!(report.verdict(), Ok(()));
 }
 
 #[test]
 fn every_kind() {
-    assert_eq!(compare_all_kinds(&REFERENCE, &REFERENCE), Ok(()));
+    assert_eq!(compare_kinds(&REFERENCE, &REFERENCE, 0..=u16::MAX), Ok(()));
 }
 
 /// "Places past n or m hold 0" and the rest, as the maker understands them.
@@ -149,6 +147,35 @@ fn invented_visits_are_found() {
         ..RIGHT
     };
     found(&wrong);
+}
+
+/// Both sides make the same slip, so that they don't differ.
+#[test]
+fn an_answer_that_its_question_can_t_have_is_told() {
+    let stuck_displays = Wrong {
+        record: |record| {
+            if record.number == FAULT {
+                record.number = STUCK;
+            }
+        },
+        ..RIGHT
+    };
+    let report = compare(&stuck_displays, &stuck_displays, 1, 20_000);
+    assert!(report.failure.is_none());
+    assert_eq!(report.coverage.strange(), ["display run answered 11"]);
+    assert!(report.verdict().is_err());
+}
+
+#[test]
+fn a_comparison_that_reaches_nothing_is_told() {
+    let none = compare(&REFERENCE, &REFERENCE, 1, 0);
+    assert!(none.failure.is_none());
+    let told = none.verdict().unwrap_err();
+    assert!(told.starts_with("never reached: "), "{told}");
+    assert!(compare(&REFERENCE, &REFERENCE, 1, 20).verdict().is_err());
+    assert!(compare_consoles(&REFERENCE, &REFERENCE, 1, 0)
+        .verdict()
+        .is_err());
 }
 
 #[test]

@@ -1,7 +1,7 @@
 //! The stored vectors through the reference, and that the program would tell a wrong reader or a wrong case.
 
 use reader_tests::subject::*;
-use reader_tests::vectors::{read, written, Item, WORK_WORDS};
+use reader_tests::vectors::{judged, read, written, Item, WORK_WORDS};
 
 const REFERENCE: Reference = Reference {
     work_words: WORK_WORDS,
@@ -15,9 +15,30 @@ fn file(name: &str) -> String {
 #[test]
 fn the_reference_gives_what_is_stored() {
     for name in ["table", "typing", "runs", "listing"] {
-        let items = read(&file(&format!("{name}.cases"))).expect("cases");
+        let cases = file(&format!("{name}.cases"));
         let stored = file(&format!("{name}.stored"));
-        assert_eq!(written(&items, &REFERENCE), stored, "{name}");
+        let judged = judged(&cases, &stored, &REFERENCE);
+        assert!(matches!(judged, Ok(1..)), "{name}: {judged:?}");
+    }
+}
+
+#[test]
+fn a_file_that_says_nothing_is_refused() {
+    let told = |cases: &str, stored: &str| judged(cases, stored, &REFERENCE).err();
+    let case = format!("{CASE_A}check x: a\n");
+    assert_eq!(told(&case, "check x: passed\n"), None);
+    for cases in ["", "\n", "## A sentence\n", CASE_A] {
+        assert_eq!(told(cases, "").as_deref(), Some("there is no case"));
+    }
+    assert_eq!(told(&case, "").as_deref(), Some("nothing is stored"));
+    for stored in [
+        "\n",
+        "check x: passed",
+        "check x: passed\n\n",
+        "check x: SIZE 0\n",
+    ] {
+        let told = told(&case, stored).unwrap_or_default();
+        assert!(told.starts_with("stored line "), "{told}");
     }
 }
 

@@ -2,7 +2,8 @@
 //! Arguments: `none`, `check` or `type_check` and how many rules of 16 nodes; or `run` and the letter of a run.
 
 use reader_bench::grammars::{blocks, measured_runs, Work};
-use reader_tests::library::{Library, WORK_WORDS};
+use reader_tests::exported::WORK_WORDS;
+use reader_tests::library::Library;
 use reader_tests::subject::Subject;
 use std::hint::black_box;
 

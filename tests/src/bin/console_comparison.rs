@@ -25,11 +25,9 @@ fn main() {
     if let Some(failure) = &report.failure {
         fs::write(room.join("differs.console"), &failure.shrunk).expect("a file");
         println!("once more: ./run target/console_comparison/differs.console");
-        std::process::exit(1);
     }
-    let missing = report.coverage.missing();
-    if !missing.is_empty() {
-        println!("never reached: {missing:?}");
+    if let Err(told) = report.verdict() {
+        println!("{told}");
         std::process::exit(1);
     }
 }

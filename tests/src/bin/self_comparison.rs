@@ -15,9 +15,8 @@ fn main() {
     };
     let report = compare(&reference, &reference, asked(1, 1), asked(0, 200_000));
     print!("{report}");
-    let missing = report.coverage.missing();
-    if report.failure.is_some() || !missing.is_empty() {
-        println!("never reached: {missing:?}");
+    if let Err(told) = report.verdict() {
+        println!("{told}");
         std::process::exit(1);
     }
 }

@@ -1,73 +1,87 @@
-//! Runs a case file and compares what comes back with the stored file, byte for byte: first for the reference, then for the proved reader if it is at hand.
-//! Arguments: the case file, the stored file. How to read them: tests/VECTORS.md.
+//! Runs a case file and compares what comes back with the stored file, byte for byte, for each of the subjects.
+//! Arguments: the case file, the stored file, and the subjects that must be tried: reference, library (linked with `--features library`), shipped (READER_SHIPPED is the
+//! command that starts its caller). Without any, those that are at hand. How to read the files: tests/VECTORS.md.
 
+use reader_tests::shipped::Shipped;
 use reader_tests::subject::{Reference, Subject};
-use reader_tests::vectors::{read, written, WORK_WORDS};
+use reader_tests::vectors::{judged, WORK_WORDS};
 
 #[cfg(feature = "library")]
-fn proved_reader() -> Option<Box<dyn Subject>> {
+fn library() -> Option<Box<dyn Subject>> {
     Some(Box::new(reader_tests::library::Library))
 }
 
 #[cfg(not(feature = "library"))]
-fn proved_reader() -> Option<Box<dyn Subject>> {
+fn library() -> Option<Box<dyn Subject>> {
     None
 }
 
-fn subjects() -> Vec<(&'static str, Box<dyn Subject>)> {
-    let reference: Box<dyn Subject> = Box::new(Reference {
-        work_words: WORK_WORDS,
-    });
-    let proved = proved_reader().map(|reader| ("proved reader", reader));
-    std::iter::once(("reference", reference))
-        .chain(proved)
-        .collect()
+fn shipped() -> Option<Box<dyn Subject>> {
+    let command = std::env::var("READER_SHIPPED").ok()?;
+    Some(Box::new(Shipped::new(&command)))
 }
 
-/// The first line that differs, with its number; a missing line is empty.
-fn difference(stored: &str, came: &str) -> Option<String> {
-    if stored == came {
-        return None;
+fn reference() -> Option<Box<dyn Subject>> {
+    Some(Box::new(Reference {
+        work_words: WORK_WORDS,
+    }))
+}
+
+type Named = (&'static str, fn() -> Option<Box<dyn Subject>>);
+
+const SUBJECTS: [Named; 3] = [
+    ("reference", reference),
+    ("library", library),
+    ("shipped", shipped),
+];
+
+/// Those that are named, each of which must be there, or all that are there.
+fn subjects(names: &[String]) -> Result<Vec<(&'static str, Box<dyn Subject>)>, String> {
+    if let Some(name) = names
+        .iter()
+        .find(|name| !SUBJECTS.iter().any(|known| known.0 == **name))
+    {
+        return Err(format!("{name}: no such subject"));
     }
-    let (mut stored, mut came) = (stored.split('\n'), came.split('\n'));
-    for number in 1.. {
-        let (wanted, got) = (stored.next(), came.next());
-        if wanted != got {
-            let [wanted, got] = [wanted, got].map(|line| line.unwrap_or("(no line)"));
-            return Some(format!(
-                "line {number}\n  stored: {wanted}\n  came:   {got}"
-            ));
+    let mut all = Vec::new();
+    for (name, make) in SUBJECTS {
+        let asked = names.iter().any(|asked| asked == name);
+        if !names.is_empty() && !asked {
+            continue;
+        }
+        match make() {
+            Some(subject) => all.push((name, subject)),
+            None if asked => return Err(format!("{name} isn't at hand")),
+            None => {}
         }
     }
-    None
+    Ok(all)
 }
 
-fn compare(cases: &str, stored: &str) -> Result<String, String> {
+fn compare(cases: &str, stored: &str, names: &[String]) -> Result<String, String> {
     let file =
         |path: &str| std::fs::read_to_string(path).map_err(|error| format!("{path}: {error}"));
-    let items = read(&file(cases)?).map_err(|error| format!("{cases}, {error}"))?;
-    let expected = file(stored)?;
-    let mut names = Vec::new();
-    for (name, subject) in subjects() {
-        if let Some(told) = difference(&expected, &written(&items, subject.as_ref())) {
-            return Err(format!("{stored}, {name}: {told}"));
-        }
-        names.push(name);
+    let (items, expected) = (file(cases)?, file(stored)?);
+    let mut told = Vec::new();
+    let mut count = 0;
+    for (name, subject) in subjects(names)? {
+        count = judged(&items, &expected, subject.as_ref())
+            .map_err(|error| format!("{cases}, {name}: {error}"))?;
+        told.push(name);
     }
-    let count = items.iter().filter(|item| item.is_case()).count();
     Ok(format!(
         "{cases}: {count} cases as stored ({})",
-        names.join(", ")
+        told.join(", ")
     ))
 }
 
 fn main() {
     let given: Vec<String> = std::env::args().skip(1).collect();
-    let [cases, stored] = &given[..] else {
-        eprintln!("vectors CASES STORED");
+    let [cases, stored, names @ ..] = &given[..] else {
+        eprintln!("vectors CASES STORED [SUBJECT..]");
         std::process::exit(2);
     };
-    match compare(cases, stored) {
+    match compare(cases, stored, names) {
         Ok(told) => println!("{told}"),
         Err(told) => {
             println!("{told}");

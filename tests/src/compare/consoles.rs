@@ -3,6 +3,7 @@
 use super::console_coverage::ConsoleCoverage;
 use super::one::same;
 use super::shrink::{shrink, smaller_input};
+use super::whole;
 use crate::random::consoles::{input, run_case_of};
 use crate::subject::Console;
 use std::cell::Cell;
@@ -87,6 +88,17 @@ fn failure(
         difference,
         shrunk,
         shrunk_difference: shrunk_difference.unwrap_or_default(),
+    }
+}
+
+impl ConsoleReport {
+    pub fn verdict(&self) -> Result<(), String> {
+        let coverage = &self.coverage;
+        whole(
+            self.failure.is_some(),
+            &coverage.missing(),
+            &coverage.strange(),
+        )
     }
 }
 

@@ -1,17 +1,43 @@
-//! How often each answer of a `Subject` and each kind was reached. INPUT is the console's alone.
+//! What the cases of a `Subject` reached: each answer of each question, each sort
+//! of value and of part, each kind. INPUT is the console's alone.
 
-use crate::numbers;
+use super::tally::{Question, Tally};
+use crate::numbers::*;
 use crate::reference::run::{KindCounts, KINDS};
 use crate::reference::table::sort_of_kind;
-use crate::subject::{Home, Record, Value};
+use crate::subject::{Home, Record, Span, Value};
 use std::fmt;
 
-pub struct Coverage {
-    answers: [u64; 24],
-    runs: [u64; 13],
-    values: [u64; 5],
-    kinds: KindCounts,
+#[derive(Clone, Copy)]
+pub enum Asked {
+    Check,
+    TypeCheck,
+    Bench,
+    Display,
+    Read,
+    Write,
 }
+
+/// In the order of `Asked`. "Checks go 1, 2, 3, 4, then 5 (type check and display
+/// run only), 6, 7, then the run"; a display run is never STUCK.
+const QUESTIONS: [Question; 6] = [
+    ("check", &[DONE, SIZE, FIELD, USE, START]),
+    ("type check", &[DONE, SIZE, FIELD, USE, START, TYPE]),
+    (
+        "bench run",
+        &[
+            DONE, SIZE, FIELD, USE, START, LONG, WORK, NOMATCH, BUDGET, DEEP, STUCK, FAULT,
+        ],
+    ),
+    (
+        "display run",
+        &[
+            DONE, SIZE, FIELD, USE, START, TYPE, LONG, WORK, NOMATCH, BUDGET, DEEP, FAULT,
+        ],
+    ),
+    ("read", &[DONE, LINE, ROOM]),
+    ("write", &[DONE, SIZE, OUT]),
+];
 
 const VALUES: [&str; 5] = [
     "absent",
@@ -21,35 +47,62 @@ const VALUES: [&str; 5] = [
     "Text of the literals",
 ];
 
+const PARTS: [&str; 4] = [
+    "of a value that is no Text",
+    "of the message",
+    "of the literals",
+    "that doesn't fit",
+];
+
+pub struct Coverage {
+    answers: Tally,
+    values: [u64; 5],
+    parts: [u64; 4],
+    kinds: KindCounts,
+}
+
 impl Default for Coverage {
     fn default() -> Coverage {
         Coverage {
-            answers: [0; 24],
-            runs: [0; 13],
+            answers: Tally::of(&QUESTIONS),
             values: [0; 5],
+            parts: [0; 4],
             kinds: [0; KINDS],
         }
     }
 }
 
 impl Coverage {
-    pub fn answer(&mut self, number: u32) {
-        if let Some(count) = self.answers.get_mut(number as usize) {
-            *count += 1;
+    pub fn answer(&mut self, asked: Asked, number: u32) {
+        self.answers.count(asked as usize, number);
+    }
+
+    /// The answer of a run, and its values if DONE.
+    pub fn record(&mut self, display: bool, record: &Record) {
+        let asked = if display {
+            Asked::Display
+        } else {
+            Asked::Bench
+        };
+        self.answer(asked, record.number);
+        if record.number == DONE {
+            for value in record.values {
+                if let Some(sort) = sort_of_value(value) {
+                    self.values[sort] += 1;
+                }
+            }
         }
     }
 
-    /// The answer of a bench or display run, and its values if DONE.
-    pub fn record(&mut self, record: &Record) {
-        self.answer(record.number);
-        if let Some(count) = self.runs.get_mut(record.number as usize) {
-            *count += 1;
-        }
-        if record.number == numbers::DONE {
-            for value in record.values {
-                self.values[sort_of_value(value)] += 1;
-            }
-        }
+    /// The part that was handed out for a value.
+    pub fn part(&mut self, value: Value, handed_out: Span) {
+        let sort = match value {
+            Value::Text(span) if span != handed_out => 3,
+            Value::Text(span) if span.home == Home::Message => 1,
+            Value::Text(_) => 2,
+            _ => 0,
+        };
+        self.parts[sort] += 1;
     }
 
     pub fn kinds(&mut self, reached: &KindCounts) {
@@ -60,17 +113,12 @@ impl Coverage {
 
     /// What was counted, by name.
     fn counts(&self) -> Vec<(String, u64)> {
-        let mut all = Vec::new();
-        let of_subject = |(number, _): &(u32, &str)| *number != numbers::INPUT;
-        for (number, name) in numbers::ALL.into_iter().filter(of_subject) {
-            let count = self.answers[number as usize];
-            all.push((format!("answer {number} {name}"), count));
-        }
-        for (number, &count) in self.runs.iter().enumerate() {
-            all.push((format!("run answered {number}"), count));
-        }
+        let mut all = self.answers.counts();
         for (name, &count) in VALUES.iter().zip(&self.values) {
             all.push((format!("value {name}"), count));
+        }
+        for (name, &count) in PARTS.iter().zip(&self.parts) {
+            all.push((format!("part {name}"), count));
         }
         for kind in (0..KINDS).filter(|&kind| sort_of_kind(kind as u16).is_some()) {
             all.push((format!("kind {kind}"), self.kinds[kind]));
@@ -83,15 +131,20 @@ impl Coverage {
         let never = self.counts().into_iter().filter(|(_, count)| *count == 0);
         never.map(|(name, _)| name).collect()
     }
+
+    pub fn strange(&self) -> Vec<String> {
+        self.answers.strange()
+    }
 }
 
-fn sort_of_value(value: Value) -> usize {
+fn sort_of_value(value: Value) -> Option<usize> {
     match value {
-        Value::Absent => 0,
-        Value::Bool(_) => 1,
-        Value::Integer(_) => 2,
-        Value::Text(span) if span.home == Home::Message => 3,
-        Value::Text(_) => 4,
+        Value::Absent => Some(0),
+        Value::Bool(_) => Some(1),
+        Value::Integer(_) => Some(2),
+        Value::Text(span) if span.home == Home::Message => Some(3),
+        Value::Text(_) => Some(4),
+        Value::Stray { .. } => None,
     }
 }
 

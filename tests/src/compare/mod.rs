@@ -3,10 +3,12 @@
 pub mod console_coverage;
 pub mod consoles;
 pub mod coverage;
+pub mod exports;
 pub mod one;
 pub mod shrink;
 mod shrink_tables;
 mod shrink_texts;
+pub mod tally;
 
 use crate::random::cases::{case, Case, RunCase};
 use crate::random::draft::Draft;
@@ -49,9 +51,13 @@ pub fn compare(left: &dyn Subject, right: &dyn Subject, first_seed: u64, count: 
     report
 }
 
-/// Every word there is as the kind of a node: first of a part, then of a body.
-pub fn compare_all_kinds(left: &dyn Subject, right: &dyn Subject) -> Result<(), String> {
-    for kind in 0..=u16::MAX {
+/// Each of these words as the kind of a node: first of a part, then of a body.
+pub fn compare_kinds(
+    left: &dyn Subject,
+    right: &dyn Subject,
+    kinds: impl Iterator<Item = u16>,
+) -> Result<(), String> {
+    for kind in kinds {
         for hurt in 0..2 {
             let mut draft = Draft::default();
             let part = draft.node(EMPTY, &[]);
@@ -97,6 +103,32 @@ fn failure(
         difference,
         shrunk,
         shrunk_difference,
+    }
+}
+
+/// Only where something was tried of everything, and nothing that can't be, is
+/// it worth something that no difference was found.
+pub fn whole(differs: bool, missing: &[String], strange: &[String]) -> Result<(), String> {
+    if differs {
+        return Err("they differ".to_string());
+    }
+    if !missing.is_empty() {
+        return Err(format!("never reached: {missing:?}"));
+    }
+    if !strange.is_empty() {
+        return Err(format!("what no question can answer: {strange:?}"));
+    }
+    Ok(())
+}
+
+impl Report {
+    pub fn verdict(&self) -> Result<(), String> {
+        let coverage = &self.coverage;
+        whole(
+            self.failure.is_some(),
+            &coverage.missing(),
+            &coverage.strange(),
+        )
     }
 }
 

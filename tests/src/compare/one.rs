@@ -1,6 +1,6 @@
 //! One case, two subjects.
 
-use super::coverage::Coverage;
+use super::coverage::{Asked, Coverage};
 use crate::numbers::{is_run, BUDGET, DONE};
 use crate::random::cases::{Case, ReadCase, RunCase, TextCase, WriteCase, AFFORDABLE};
 use crate::reference::run::{observe, Lent};
@@ -19,7 +19,7 @@ pub fn compare_case(
         Case::Run(case) => compare_run(left, right, case, coverage),
         Case::Read(case) => compare_read(left, right, case, coverage),
         Case::Write(case) => compare_write(left, right, case, coverage),
-        Case::Text(case) => compare_text(left, right, case),
+        Case::Text(case) => compare_text(left, right, case, coverage),
     }
 }
 
@@ -46,10 +46,10 @@ fn compare_run(
     coverage: &mut Coverage,
 ) -> Same {
     let check = left.check(&case.words, &case.literals);
-    coverage.answer(check.0);
+    coverage.answer(Asked::Check, check.0);
     same("check", &check, &right.check(&case.words, &case.literals))?;
     let typed = left.type_check(&case.words, &case.literals);
-    coverage.answer(typed.0);
+    coverage.answer(Asked::TypeCheck, typed.0);
     same(
         "type check",
         &typed,
@@ -60,11 +60,11 @@ fn compare_run(
     }
     let (record, work) = run_of(left, case)?;
     let (other, other_work) = run_of(right, case)?;
-    coverage.record(&record);
+    coverage.record(case.display, &record);
     same("record", &record, &other)?;
     same_slice("work area", &work, &other_work)?;
     for value in record.values {
-        compare_bytes(left, right, &case.message, &case.literals, value)?;
+        compare_bytes(left, right, &case.message, &case.literals, value, coverage)?;
     }
     if is_run(record.number) {
         coverage.kinds(&observe(&lent(case), &mut [], 0).1);
@@ -132,7 +132,7 @@ fn compare_read(
 ) -> Same {
     let (answer, words, literals) = read_of(left, case)?;
     let (other, other_words, other_literals) = read_of(right, case)?;
-    coverage.answer(answer.number);
+    coverage.answer(Asked::Read, answer.number);
     same("read", &answer, &other)?;
     same_slice("words read", &words, &other_words)?;
     same_slice("literals read", &literals, &other_literals)
@@ -177,7 +177,7 @@ fn compare_write(
 ) -> Same {
     let (answer, text) = write_of(left, case)?;
     let (other, other_text) = write_of(right, case)?;
-    coverage.answer(answer.number);
+    coverage.answer(Asked::Write, answer.number);
     same("write", &answer, &other)?;
     same_slice("text written", &text, &other_text)
 }
@@ -192,8 +192,18 @@ fn write_of(subject: &dyn Subject, case: &WriteCase) -> Result<(WriteAnswer, Vec
     Ok((answer, text))
 }
 
-fn compare_text(left: &dyn Subject, right: &dyn Subject, case: &TextCase) -> Same {
-    compare_bytes(left, right, &case.message, &case.literals, case.value)
+fn compare_text(
+    left: &dyn Subject,
+    right: &dyn Subject,
+    case: &TextCase,
+    coverage: &mut Coverage,
+) -> Same {
+    let TextCase {
+        message,
+        literals,
+        value,
+    } = case;
+    compare_bytes(left, right, message, literals, *value, coverage)
 }
 
 /// Where both can be asked about the value.
@@ -203,10 +213,12 @@ fn compare_bytes(
     message: &[u8],
     literals: &[u8],
     value: Value,
+    coverage: &mut Coverage,
 ) -> Same {
     let parts = [left, right].map(|subject| subject.text_bytes(message, literals, value));
-    match parts {
-        [Some(part), Some(other)] => same("text bytes", &part, &other),
-        _ => Ok(()),
-    }
+    let [Some(part), Some(other)] = parts else {
+        return Ok(());
+    };
+    coverage.part(value, part);
+    same("text bytes", &part, &other)
 }

@@ -97,5 +97,6 @@ fn value_text(value: Value, message: &[u8], literals: &[u8]) -> String {
                 format!("3 {}", hex_of(bytes))
             }
         }
+        Value::Stray { .. } => unreachable!("a run of the reference has no such value"),
     }
 }

@@ -107,6 +107,7 @@ fn value_text(value: Value, case: &Case, subject: &dyn Subject) -> String {
         Value::Absent => "absent".to_string(),
         Value::Bool(held) => format!("Bool {}", held as u8),
         Value::Integer(held) => format!("Integer {held}"),
+        Value::Stray { tag, payload } => format!("TAG {tag} WITH {payload}"),
         Value::Text(span) => {
             let handed = handed_out(value, case, subject);
             if handed != span {

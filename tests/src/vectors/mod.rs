@@ -14,8 +14,7 @@ use cases::Case;
 use listings::{Listing, Reading};
 use std::collections::{HashMap, HashSet};
 
-/// W, as docs/WORK.md states it.
-pub const WORK_WORDS: usize = 9_760;
+pub use crate::exported::WORK_WORDS;
 
 pub enum Item {
     /// A sentence of document 01 over its cases: written as it stands.
@@ -119,4 +118,38 @@ pub fn written(items: &[Item], subject: &dyn Subject) -> String {
         text += "\n";
     }
     text
+}
+
+/// How many cases there are, all as stored, or what is wrong first: a file that says nothing would try nothing.
+pub fn judged(cases: &str, stored: &str, subject: &dyn Subject) -> Result<usize, String> {
+    let items = read(cases)?;
+    let count = items.iter().filter(|item| item.is_case()).count();
+    if count == 0 {
+        return Err("there is no case".to_string());
+    }
+    if stored.is_empty() {
+        return Err("nothing is stored".to_string());
+    }
+    match difference(stored, &written(&items, subject)) {
+        Some(told) => Err(format!("stored {told}")),
+        None => Ok(count),
+    }
+}
+
+/// The first line that differs, with its number.
+fn difference(stored: &str, came: &str) -> Option<String> {
+    if stored == came {
+        return None;
+    }
+    let (mut stored, mut came) = (stored.split('\n'), came.split('\n'));
+    for number in 1.. {
+        let (wanted, got) = (stored.next(), came.next());
+        if wanted != got {
+            let [wanted, got] = [wanted, got].map(|line| line.unwrap_or("(no line)"));
+            return Some(format!(
+                "line {number}\n  stored: {wanted}\n  came:   {got}"
+            ));
+        }
+    }
+    None
 }
