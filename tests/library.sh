@@ -1,15 +1,11 @@
 #!/usr/bin/env bash
 # Prints the path of the reader's static library for this machine's processor, for tests and benchmark alone; the shipped library and every verdict are rt's.
-# On x86-64 it is what `rt staticlib exports` writes. On another processor the same proved module is compiled for it, since the kit's own would only run under
-# an emulator there.
+# On x86-64 it is the shipped archive itself (tests/archive.sh). On another processor the same proved module is compiled for it, since the archive would only run under
+# an emulator there (as a part of the tests does: tests/shipped.sh).
 set -eu
 cd "$(dirname "$0")/.."
+[ "$(uname -m)" != x86_64 ] || exec tests/archive.sh
 mkdir -p target/native
-if [ "$(uname -m)" = x86_64 ]; then
-    rt staticlib exports >target/native/log 2>&1 || { tail -n 20 target/native/log >&2; exit 1; }
-    echo "$PWD/target/staticlib/libexports.a"
-    exit 0
-fi
 rt check exports >target/native/log 2>&1 || { tail -n 20 target/native/log >&2; exit 1; }
 kit=$(dirname "$(dirname "$(rt doc)")")
 own=$kit/on/$(uname -m)

@@ -1,7 +1,8 @@
 #!/usr/bin/env bash
 # promises.sh: holds docs/PROMISES.md to the code. Every public function of a library crate stands there by its full name, `crate::module::function`, and no other does;
-# every wrong program or definition (`crate/name.edit`) and every definition or law (`crate/specs/Module.name`) that it names is there.
-# And each has a contract of the kind that the page speaks of: an `ensures`, and no `requires`.
+# every wrong program or definition (`crate/name.edit`) stands there, and each that it names is there; every definition or law (`crate/specs/Module.name`) that it names
+# is there. And each public function has a contract of the kind that the page speaks of: no `requires`, and an `ensures` that is an equation or names a definition of the
+# page.
 # promises.sh --list prints the public functions.
 set -euo pipefail
 cd "$(dirname "$0")/.."
@@ -9,14 +10,12 @@ page=docs/PROMISES.md
 
 # A function is public where every module around it is: a file's own functions, then those of the modules that it opens with `pub mod`.
 public_in() { # FILE PATH
-    local file=$1 path=$2 module
+    local file=$1 path=$2 module inside
     sed -nE "s/^ *pub (extern \"C\" )?fn ([a-z_0-9]+).*/$path::\\2/p" "$file"
-    for module in $(sed -nE 's/^ *pub mod ([a-z_0-9]+);.*/\1/p' "$file"); do
-        case $file in
-        */lib.rt) public_in "${file%lib.rt}$module.rt" "$path::$module" ;;
-        *) public_in "${file%.rt}/$module.rt" "$path::$module" ;;
-        esac
-    done
+    while read -r module; do
+        case $file in */lib.rt) inside=${file%lib.rt}$module.rt ;; *) inside=${file%.rt}/$module.rt ;; esac
+        public_in "$inside" "$path::$module"
+    done < <(sed -nE 's/^ *pub mod ([a-z_0-9]+);.*/\1/p' "$file")
 }
 
 public_functions() {
@@ -26,16 +25,38 @@ public_functions() {
     done | sort
 }
 
-# The `pub fn` of a library whose contract has a `requires`, or no `ensures`. (Of a private module too: what only its own crate calls is `pub(crate)`.)
-without_promise() {
+# The `pub fn` of a library whose contract has a `requires`, or no `ensures` that says something. (Of a private module too: what only its own crate calls is
+# `pub(crate)`.) A contract is what stands between `fn` and the brace that opens the body, which ends a line; else it ends with the next item, or with the file.
+without_promise() { # DEFINITIONS
     local library
     for library in crates/*/src/lib.rt; do
-        awk '
-            /^ *pub (extern "C" )?fn / { name = $0; sub(/.*fn /, "", name); sub(/[^a-z_0-9].*/, "", name); asks = says = 0 }
+        find "$(dirname "$library")" -name '*.rt' -exec cat {} + | awk -v file="$library" -v definitions="$1" '
+            BEGIN { count = split(definitions, definition, "\n") }
+            function judge() {
+                if (name && (asks || !says)) print file ": " name
+                name = ""
+            }
+            function speaks(contract,    i) {
+                if (index(contract, "≡")) return 1
+                for (i = 1; i <= count; i++) if (index(contract, " " definition[i] " ")) return 1
+                return 0
+            }
+            /^ *(pub |pub\(crate\) )?(extern "C" )?(fn|mod|use|const|struct|enum|impl) / { judge() }
+            /^ *pub (extern "C" )?fn / { name = $0; sub(/^.*fn /, "", name); sub(/[^a-z_0-9].*/, "", name); asks = says = 0 }
             name && /^ *requires / { asks = 1 }
-            name && /^ *ensures / { says = 1 }
-            name && /^ *\{$/ { if (asks || !says) print FILENAME ": " name; name = "" }' "$(dirname "$library")"/*.rt
+            name && /^ *ensures / { if (speaks($0)) says = 1 }
+            name && /\{$/ { judge() }
+            END { judge() }'
     done
+}
+
+# The wrong programs and definitions, as the page names them; controls are neither.
+edits() {
+    local edit name
+    for edit in crates/*/must-fail/*.edit crates/*/must-fail/code/*.edit; do
+        name=${edit#crates/}
+        grep -q '^control: ' "$edit" || echo "${name%%/*}/${edit##*/}"
+    done | sort
 }
 
 # What stands on the page in code font and has this form.
@@ -49,24 +70,26 @@ tell() { # MESSAGE
     wrong=1
 }
 
+# Both lists are the same.
+hold() { # THERE NAMED MISSING STRANGE
+    local one
+    while read -r one; do tell "$one $3"; done < <(comm -23 <(echo "$1") <(echo "$2"))
+    while read -r one; do tell "$one $4"; done < <(comm -13 <(echo "$1") <(echo "$2"))
+}
+
+functions=$(public_functions)
+[ -n "$functions" ] || { echo "promises.sh: no public function was found"; exit 1; }
 if [ "${1:-}" = --list ]; then
-    public_functions
+    echo "$functions"
     exit
 fi
 
-functions=$(public_functions)
-there=$(named '[a-z_0-9]+(::[a-z_0-9]+)+')
-for function in $(comm -23 <(echo "$functions") <(echo "$there")); do tell "$function is missing"; done
-for function in $(comm -13 <(echo "$functions") <(echo "$there")); do tell "$function is no public function"; done
-
-while read -r function; do tell "$function has a \`requires\`, or no \`ensures\`"; done < <(without_promise)
-
-for edit in $(named '[a-z_0-9]+/[a-z_0-9]+\.edit'); do
-    crate=crates/${edit%%/*}/must-fail
-    [ -f "$crate/code/${edit#*/}" ] || [ -f "$crate/${edit#*/}" ] || tell "$edit is not there"
-done
-
-for definition in $(named '[a-z_0-9]+/(specs|proofs)/[A-Za-z]+(\.[^`. ]+)?'); do
+hold "$functions" "$(named '[a-z_0-9]+(::[a-z_0-9]+)+')" 'is missing' 'is no public function'
+hold "$(edits)" "$(named '[a-z_0-9]+/[a-z_0-9]+\.edit')" 'is not named' 'is not there'
+definitions=$(named '[a-z_0-9]+/(specs|proofs)/[A-Za-z]+(\.[^`. ]+)?')
+unpromised=$(without_promise "$(sed -n 's/.*\.//p' <<<"$definitions")")
+while read -r function; do [ -z "$function" ] || tell "$function has a \`requires\`, or no \`ensures\` that says something"; done <<<"$unpromised"
+for definition in $definitions; do
     module=${definition%%.*}
     name=${definition#"$module"}
     name=${name#.}

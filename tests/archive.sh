@@ -1,0 +1,11 @@
+#!/usr/bin/env bash
+# Prints the path of the shipped archive, which `rt staticlib exports` writes: for x86-64, whatever this machine is. Makes it if it has to, proved first.
+set -eu
+cd "$(dirname "$0")/.."
+archive=$PWD/target/staticlib/libexports.a
+newest=$(find crates crates.txt "$(dirname "$(dirname "$(rt doc)")")/KIT-ID" -type f -newer "$archive" -print -quit 2>/dev/null || echo none)
+if [ ! -f "$archive" ] || [ -n "$newest" ]; then
+    mkdir -p target/log
+    rt staticlib exports >target/log/archive 2>&1 || { tail -n 20 target/log/archive >&2; exit 1; }
+fi
+echo "$archive"

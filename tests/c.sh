@@ -1,0 +1,11 @@
+#!/usr/bin/env bash
+# c.sh HEADER WORDS..: compiles C that includes styrmflo.h, the file HEADER, for x86-64, with the kit's compiler and every warning an error. The header needs stddef.h and
+# stdint.h alone, which the machine's own compiler has.
+set -eu
+header=$1
+shift
+kit=$(dirname "$(dirname "$(rt doc)")")
+own=$kit/on/$(uname -m)
+[ -d "$own" ] || own=$kit
+exec "$own/toolchain/bin/clang" --target=x86_64-unknown-linux-gnu -std=c99 -pedantic -Wall -Wextra -Werror -fPIC -ffreestanding -nostdlibinc \
+    -isystem "$(cc -print-file-name=include)" -I "$(dirname "$header")" "$@"
