@@ -24,12 +24,13 @@ files() { # FOLDER PATTERN
     [ ! -d "$1" ] || find "$1" -type f -name "$2" | sort
 }
 
+# A control is no wrong program.
 edits() { # FOLDER
-    files "$1" '*.edit' | grep -c . || true
+    files "$1" '*.edit' | grep -vc '/control\.edit$' || true
 }
 
 edits_of_code() {
-    files crates '*.edit' | grep -c /code/ || true
+    files crates '*.edit' | grep -v '/control\.edit$' | grep -c /code/ || true
 }
 
 ratio() { # A B
@@ -79,7 +80,8 @@ default_count() { # FILE PATTERN: the number in a line of Rust
 }
 
 tried() {
-    local random consoles
+    local random shipped consoles
+    shipped=$(default_count tests/src/bin/shipped_comparison.rs 'asked\(0, ([0-9_]+)\)')
     random=$(default_count tests/src/bin/library_comparison.rs 'asked\(0, ([0-9_]+)\)')
     consoles=$(default_count tests/src/compare/consoles.rs 'FEW: u64 = ([0-9_]+)')
     echo '| what | how many |'
@@ -90,6 +92,7 @@ tried() {
     echo "| C functions of the kit whose contracts the program \`console\` assumes | $(sed -nE 's/^axioms ([a-z]+: [^(]*[^( ]) \(.*/\1/p' "$log" | tail -n 1 | sed 's/^$/–/') |"
     echo "| wrong definitions, each refused | $(($(edits crates) - $(edits_of_code))) |"
     echo "| wrong programs, each refused | $(edits_of_code) |"
+    echo "| controls, each failing or passing as it must: a crate's edit of white space; the gate's scripts | $(files crates control.edit | wc -l); $(grep -hoE '^ *(fails|passes|changed|says) ' tests/controls/*.sh | wc -l) |"
     echo "| bench cases A to O with their variants, proved about the written meaning | $(grep -cE '^ *(∷ )?record \{ mode = ' crates/grammar/proofs/Bench.antt) |"
     local vectors
     for vectors in table typing runs listing; do
@@ -99,6 +102,7 @@ tried() {
     echo "| examples with a stored answer | $(files examples '*.console' | wc -l) |"
     echo "| tests of the independent implementation | $(grep -rh --include='*.rs' '#\[test\]' tests/src tests/tests | wc -l) |"
     echo "| random cases, compared through the library | ${random:-–} |"
+    echo "| random cases, compared through the shipped archive, called from C | ${shipped:-–} |"
     echo "| kinds tried as a node's first word | 65536 |"
     echo "| random inputs, compared through the console program | ${consoles:-–} |"
 }

@@ -289,7 +289,10 @@ one_crate() { # CRATE
         elif [ -n "$(said_of "$edit" constant)" ]; then open+=("$edit")
         else pending+=("$edit"); fi
     done
-    if [ ${#pending[@]} -lt 2 ] || ! is_control "${pending[0]}"; then fail "$1: there is no control, or no edit beside it"; fi
+    if [ ${#pending[@]} -lt 2 ] || ! is_control "${pending[0]}"; then
+        echo "$1: there is no control, or no edit beside it"
+        exit 1
+    fi
     as_checked "$1" "$folder"
     while [ ${#pending[@]} -gt 0 ]; do
         take

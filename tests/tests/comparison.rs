@@ -27,7 +27,10 @@ fn few_console_inputs_reach_everything() {
 
 #[test]
 fn every_kind() {
-    assert_eq!(compare_kinds(&REFERENCE, &REFERENCE, 0..=u16::MAX), Ok(()));
+    assert_eq!(
+        compare_kinds(&REFERENCE, &REFERENCE, 0..=u16::MAX),
+        Ok(65_536)
+    );
 }
 
 /// "Places past n or m hold 0" and the rest, as the maker understands them.

@@ -106,6 +106,28 @@ fn a_reading_that_says_nothing_or_something_else_is_refused() {
     }
 }
 
+/// What is wrong by itself isn't right by being stored.
+#[test]
+fn a_wrong_answer_that_is_stored_is_refused() {
+    let cases = format!("{CASE_A}display A: a; message \"G1\"; budget 2\n");
+    let told = |run: BendRun| {
+        let bent = Bent { run, ..STRAIGHT };
+        let stored = written(&read(&cases).expect("a case"), &bent);
+        judged(&cases, &stored, &bent).err()
+    };
+    assert_eq!(told(|_, _, _| {}), None);
+    for bend in [
+        (|_, work, _| work[WORK_WORDS - 1] = 1) as BendRun,
+        |_, work, _| work[WORK_WORDS] = 0,
+        |record, _, lent| record.visits += lent[1] % 3,
+        |record, _, _| record.number = 77,
+        |record, _, _| record.values[3] = Value::Stray { tag: 1, payload: 2 },
+    ] {
+        let told = told(bend).unwrap_or_default();
+        assert!(told.contains("WRONG"), "{told}");
+    }
+}
+
 /// After a run: the answer, the work area, and what was lent as one.
 type BendRun = fn(&mut Record, &mut [u32], &[u32]);
 /// After a reading: the answer, words and literals, and what was lent as words.

@@ -14,7 +14,7 @@ fn main() {
     let extent = Extent {
         cases: asked(0, 200_000),
         first_seed: asked(1, 1),
-        kinds_apart: 1,
+        kinds: |_| true,
     };
     if let Err(difference) = compare_exports(&Library, &extent) {
         println!("{difference}");

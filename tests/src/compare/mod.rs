@@ -51,12 +51,13 @@ pub fn compare(left: &dyn Subject, right: &dyn Subject, first_seed: u64, count: 
     report
 }
 
-/// Each of these words as the kind of a node: first of a part, then of a body.
+/// Each of these words as the kind of a node: first of a part, then of a body. How many there are.
 pub fn compare_kinds(
     left: &dyn Subject,
     right: &dyn Subject,
     kinds: impl Iterator<Item = u16>,
-) -> Result<(), String> {
+) -> Result<usize, String> {
+    let mut count = 0;
     for kind in kinds {
         for hurt in 0..2 {
             let mut draft = Draft::default();
@@ -68,8 +69,9 @@ pub fn compare_kinds(
             let case = run_case(left.work_words(), &draft);
             compare_case(left, right, &case, unseen)?;
         }
+        count += 1;
     }
-    Ok(())
+    Ok(count)
 }
 
 fn run_case(work_words: usize, draft: &Draft) -> Case {

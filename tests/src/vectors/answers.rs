@@ -1,4 +1,5 @@
-//! Answers as lines. Nothing of an answer is left out but zeros of consumed and visits and absent values at the end.
+//! Answers as lines. Nothing of an answer is left out but zeros of consumed and visits and absent values at the end. What no answer may be says `WRONG`, so that it is
+//! refused even where it is stored.
 
 use super::cases::{Asked, Case};
 use super::listing_answers::{reading, writing};
@@ -38,7 +39,7 @@ fn verdict((number, place): (u32, u32)) -> String {
 pub fn numbered(number: u32, place: u32) -> String {
     match ALL.iter().find(|known| known.0 == number) {
         Some((_, name)) => format!("{name} {place}"),
-        None => format!("number {number} without a name, {place}"),
+        None => format!("WRONG: number {number} without a name, {place}"),
     }
 }
 
@@ -61,7 +62,7 @@ fn run(case: &Case, words: &[u16], display: bool, subject: &dyn Subject) -> Stri
     });
     if runs[0] != runs[1] {
         return format!(
-            "{} | but with other words in the work area {}",
+            "WRONG: {} | but with other words in the work area {}",
             runs[0], runs[1]
         );
     }
@@ -80,7 +81,7 @@ fn left_behind(lent: &[u32], work: &[u32]) -> &'static str {
     if zeroed {
         "work zeroed"
     } else {
-        "WORK AREA WRONG"
+        "WRONG: the work area"
     }
 }
 
@@ -107,12 +108,12 @@ fn value_text(value: Value, case: &Case, subject: &dyn Subject) -> String {
         Value::Absent => "absent".to_string(),
         Value::Bool(held) => format!("Bool {}", held as u8),
         Value::Integer(held) => format!("Integer {held}"),
-        Value::Stray { tag, payload } => format!("TAG {tag} WITH {payload}"),
+        Value::Stray { tag, payload } => format!("WRONG: tag {tag} with {payload}"),
         Value::Text(span) => {
             let handed = handed_out(value, case, subject);
             if handed != span {
                 return format!(
-                    "Text {} but {} handed out",
+                    "WRONG: Text {} but {} handed out",
                     part(case, span),
                     part(case, handed)
                 );
@@ -135,7 +136,7 @@ fn part(case: &Case, span: Span) -> String {
         Home::Literals => ("literals", &case.literals),
     };
     if span.start as usize + span.length as usize > slice.len() {
-        return format!("{name} {} {} OUTSIDE", span.start, span.length);
+        return format!("WRONG: {name} {} {} outside", span.start, span.length);
     }
     let bytes = bytes_at(&case.message, &case.literals, span);
     format!("{name} {} {} {}", span.start, span.length, shown(bytes))

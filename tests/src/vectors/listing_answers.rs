@@ -31,7 +31,7 @@ fn lent_bytes(room: usize, dirt: fn(usize) -> u16) -> Vec<u8> {
 fn twice(one: impl Fn(fn(usize) -> u16) -> String) -> String {
     let [first, second] = DIRTS.map(one);
     if first != second {
-        return format!("{first} | but in slices that hold something else {second}");
+        return format!("WRONG: {first} | but in slices that hold something else {second}");
     }
     first
 }
@@ -79,7 +79,7 @@ pub fn reading(text: &[u8], room: Room, subject: &dyn Subject) -> String {
         } = read.answer;
         let told = numbered(number, line);
         if !read.just_filled {
-            return format!("{told}, WRONG WORDS OR LITERALS CHANGED");
+            return format!("{told}, WRONG: other words or literals changed");
         }
         if number != DONE && (words, literals) == (0, 0) {
             return told;
@@ -93,7 +93,7 @@ pub fn reading(text: &[u8], room: Room, subject: &dyn Subject) -> String {
 /// Records without the zeros at their end, then the literals.
 fn records(words: &[u16], literals: &[u8]) -> String {
     let Some(table) = Draft::of(words, literals) else {
-        return "NO TABLE".to_string();
+        return "WRONG: no table".to_string();
     };
     let record = |name: &str, words: &[u16]| {
         let last = words.iter().rposition(|&word| word != 0).unwrap_or(0);
@@ -127,7 +127,7 @@ fn write(
 /// What was read is written again: the same text, in just its length and in a byte more; OUT in a byte less and in no room, and there SIZE without the last word.
 fn written_again(text: &[u8], words: &[u16], literals: &[u8], subject: &dyn Subject) -> String {
     if text.is_empty() || words.is_empty() {
-        return "NO TABLE TO WRITE".to_string();
+        return "WRONG: no table to write".to_string();
     }
     let length = text.len();
     let gives = |words: &[u16], room, number, wanted: &[u8]| {
@@ -142,7 +142,7 @@ fn written_again(text: &[u8], words: &[u16], literals: &[u8], subject: &dyn Subj
     if right {
         return format!("again {length} bytes");
     }
-    "NOT WRITTEN AGAIN".to_string()
+    "WRONG: not written again".to_string()
 }
 
 pub fn writing(words: &[u16], literals: &[u8], room: usize, subject: &dyn Subject) -> String {
@@ -150,7 +150,7 @@ pub fn writing(words: &[u16], literals: &[u8], room: usize, subject: &dyn Subjec
         let (answer, text) = write(words, literals, room, dirt, subject);
         let told = numbered(answer.number, 0);
         let Some(text) = text else {
-            return format!("{told}, WRONG BYTES CHANGED");
+            return format!("{told}, WRONG: other bytes changed");
         };
         if answer.number != DONE && answer.length == 0 {
             return told;
@@ -172,7 +172,7 @@ fn lines(text: &[u8]) -> String {
 /// What was written is read back: the same table, in just its room; ROOM in a word or a literal less.
 fn read_back(text: &[u8], words: &[u16], literals: &[u8], subject: &dyn Subject) -> String {
     if words.is_empty() {
-        return "NO TABLE TO READ".to_string();
+        return "WRONG: no table to read".to_string();
     }
     let room = Room {
         words: words.len(),
@@ -190,5 +190,5 @@ fn read_back(text: &[u8], words: &[u16], literals: &[u8], subject: &dyn Subject)
     if right {
         return format!("back {} words, {} literals", room.words, room.literals);
     }
-    "NOT READ BACK".to_string()
+    "WRONG: not read back".to_string()
 }

@@ -130,7 +130,11 @@ pub fn judged(cases: &str, stored: &str, subject: &dyn Subject) -> Result<usize,
     if stored.is_empty() {
         return Err("nothing is stored".to_string());
     }
-    match difference(stored, &written(&items, subject)) {
+    let came = written(&items, subject);
+    if let Some(line) = came.lines().find(|line| line.contains("WRONG")) {
+        return Err(line.to_string());
+    }
+    match difference(stored, &came) {
         Some(told) => Err(format!("stored {told}")),
         None => Ok(count),
     }

@@ -1,0 +1,70 @@
+#!/usr/bin/env bash
+# controls.sh [NAME..]: shows that the gate's scripts fail. controls/NAME.sh breaks one thing after the other in a copy of what tests/NAME.sh looks at, and there the script
+# must fail and say what is wrong; the copy as it stands must pass. So a script that looks at nothing any more is told. One line a control; exit 1 if one isn't as it must.
+# Needs what ./test has built and set: READER_CONSOLE, READER_LIBRARY, READER_SHIPPED. (That a wrong proof is refused is rt ci's own. The wrong programs have a control
+# in every crate besides those here.)
+set -euo pipefail
+cd "$(dirname "$0")/.."
+top=$PWD
+# beside what is proved: links reach no other file system
+room=$(mktemp -d "$top/target/controls.XXXXXX")
+trap 'rm -rf "$room"' EXIT
+export READER_CONSOLE=${READER_CONSOLE:?} READER_LIBRARY=${READER_LIBRARY:?} READER_SHIPPED=${READER_SHIPPED:?}
+failed=0
+
+# The command must fail and say this.
+fails() { # NAME TEXT COMMAND..
+    local name=$1 text=$2 said
+    shift 2
+    if said=$("$@" 2>&1); then
+        echo "control, $name: PASSED"
+    elif ! grep -qF -e "$text" <<<"$said"; then
+        printf 'control, %s: fails, and does NOT SAY: %s\n%s\n' "$name" "$text" "$said"
+    else
+        echo "control, $name: fails, as it must"
+        return
+    fi
+    failed=1
+}
+
+passes() { # NAME COMMAND..
+    local name=$1 said
+    shift
+    if said=$("$@" 2>&1); then
+        echo "control, $name: passes, as it must"
+        return
+    fi
+    printf 'control, %s: FAILS\n%s\n' "$name" "$said"
+    failed=1
+}
+
+# Into a fresh copy of the scripts and of these parts of the repository.
+copy() { # PATH..
+    cd "$top"
+    rm -rf "$room/copy"
+    mkdir "$room/copy"
+    cp -R --parents tests/*.sh "$@" "$room/copy"
+    cd "$room/copy"
+}
+
+# Changes a file by a command of sed; a control that changes nothing shows nothing.
+change() { # FILE COMMAND
+    cp "$1" "$room/before"
+    sed -i -E "$2" "$1"
+    if cmp -s "$1" "$room/before"; then
+        echo "control, $1: '$2' CHANGES NOTHING"
+        failed=1
+    fi
+}
+
+one() { # FILE
+    # shellcheck source=/dev/null
+    . "$1"
+    exit "$failed"
+}
+
+names=${*:-$(basename -s .sh tests/controls/*.sh)}
+for name in $names; do
+    (one "tests/controls/$name.sh") || failed=1
+done
+exit "$failed"
