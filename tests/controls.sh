@@ -1,15 +1,15 @@
 #!/usr/bin/env bash
 # controls.sh [NAME..]: shows that the gate's scripts fail. controls/NAME.sh breaks one thing after the other in a copy of what tests/NAME.sh looks at, and there the script
 # must fail and say what is wrong; the copy as it stands must pass. So a script that looks at nothing any more is told. One line a control; exit 1 if one isn't as it must.
-# Needs what ./test has built and set: READER_CONSOLE, READER_LIBRARY, READER_SHIPPED. (That a wrong proof is refused is rt ci's own. The wrong programs have a control
-# in every crate besides those here.)
+# (That a wrong proof is refused is rt ci's own. The wrong programs have a control in every crate besides those here.) Those of console, vectors, shipped and must_fail need
+# what ./test has built before them and set: READER_CONSOLE, READER_LIBRARY, READER_SHIPPED.
 set -euo pipefail
 cd "$(dirname "$0")/.."
 top=$PWD
-# beside what is proved: links reach no other file system
-room=$(mktemp -d "$top/target/controls.XXXXXX")
+# on the file system of what is proved, where links to it can be; rt ci removes its own folder
+mkdir -p tests/target
+room=$(mktemp -d "$top/tests/target/controls.XXXXXX")
 trap 'rm -rf "$room"' EXIT
-export READER_CONSOLE=${READER_CONSOLE:?} READER_LIBRARY=${READER_LIBRARY:?} READER_SHIPPED=${READER_SHIPPED:?}
 failed=0
 
 # The command must fail and say this.

@@ -1,5 +1,6 @@
 # shellcheck shell=bash
 folder=$room/console
+export READER_CONSOLE=${READER_CONSOLE:?}
 
 fresh() {
     rm -rf "$folder"

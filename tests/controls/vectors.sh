@@ -1,5 +1,6 @@
 # shellcheck shell=bash
 folder=$room/vectors
+export READER_LIBRARY=${READER_LIBRARY:?} READER_SHIPPED=${READER_SHIPPED:?}
 
 fresh() {
     rm -rf "$folder"
