@@ -267,7 +267,7 @@ told() { # CRATE FOLDER EDIT
     name=$1/$(basename "$3" .edit)
     input=$(said_of "$3" 'told by')
     make "$1" "$2" "$3"
-    printed=$("$here/unproved.sh" "$2" "$top/$input")
+    printed=$("$here/unproved.sh" "$2" "$top/$input") || printed='it could not be run'
     case $printed in
     'something else') echo "$name: refused for its shape, and told by $input" ;;
     *) fail "$name: NOT TOLD by $input: $printed" ;;
