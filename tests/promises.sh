@@ -32,19 +32,22 @@ without_promise() { # DEFINITIONS
     for library in crates/*/src/lib.rt; do
         find "$(dirname "$library")" -name '*.rt' -exec cat {} + | awk -v file="$library" -v definitions="$1" '
             BEGIN { count = split(definitions, definition, "\n") }
-            function judge() {
-                if (name && (asks || !says)) print file ": " name
-                name = ""
-            }
-            function speaks(contract,    i) {
-                if (index(contract, "≡")) return 1
-                for (i = 1; i <= count; i++) if (index(contract, " " definition[i] " ")) return 1
+            function speaks(clause,    i) {
+                if (index(clause, "≡")) return 1
+                for (i = 1; i <= count; i++) if (index(clause, " " definition[i] " ")) return 1
                 return 0
             }
+            function judge(    clauses, clause, i, right) {
+                clauses = split(contract, clause, / ensures /)
+                right = clauses > 1 && contract !~ / requires /
+                for (i = 2; i <= clauses; i++) if (!speaks(clause[i])) right = 0
+                if (name && !right) print file ": " name
+                name = ""
+            }
+            { sub(/^ *\/\/.*/, "") }
             /^ *(pub |pub\(crate\) )?(extern "C" )?(fn|mod|use|const|struct|enum|impl) / { judge() }
-            /^ *pub (extern "C" )?fn / { name = $0; sub(/^.*fn /, "", name); sub(/[^a-z_0-9].*/, "", name); asks = says = 0 }
-            name && /^ *requires / { asks = 1 }
-            name && /^ *ensures / { if (speaks($0)) says = 1 }
+            /^ *pub (extern "C" )?fn / { name = $0; sub(/^.*fn /, "", name); sub(/[^a-z_0-9].*/, "", name); contract = "" }
+            name { contract = contract " " $0 " " }
             name && /\{$/ { judge() }
             END { judge() }'
     done
