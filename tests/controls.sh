@@ -1,16 +1,28 @@
 #!/usr/bin/env bash
 # controls.sh [NAME..]: shows that the gate's scripts fail. controls/NAME.sh breaks one thing after the other in a copy of what tests/NAME.sh looks at, and there the script
-# must fail and say what is wrong; the copy as it stands must pass. So a script that looks at nothing any more is told. One line a control; exit 1 if one isn't as it must.
+# must fail and say what is wrong; the copy as it stands must pass. So a script that looks at nothing any more is told. One line a control; exit 1 if one isn't as it must,
+# and where a file of controls isn't there, breaks off or shows nothing.
 # (That a wrong proof is refused is rt ci's own. The wrong programs have a control in every crate besides those here.) Those of console, vectors, shipped and must_fail need
 # what ./test has built before them and set: READER_CONSOLE, READER_LIBRARY, READER_SHIPPED.
 set -euo pipefail
 cd "$(dirname "$0")/.."
+if [ "${1:-}" != --one ]; then
+    failed=0
+    names=${*:-$(basename -s .sh tests/controls/*.sh)}
+    # each in a shell of its own, which ends at its first error
+    for name in $names; do
+        tests/controls.sh --one "$name" || { echo "tests/controls/$name.sh: NOT AS IT MUST BE"; failed=1; }
+    done
+    exit "$failed"
+fi
+
 top=$PWD
 # on the file system of what is proved, where links to it can be; rt ci removes its own folder
 mkdir -p tests/target
 room=$(mktemp -d "$top/tests/target/controls.XXXXXX")
 trap 'rm -rf "$room"' EXIT
 failed=0
+shown=0
 
 # The command must fail and say this.
 fails() { # NAME TEXT COMMAND..
@@ -22,6 +34,7 @@ fails() { # NAME TEXT COMMAND..
         printf 'control, %s: fails, and does NOT SAY: %s\n%s\n' "$name" "$text" "$said"
     else
         echo "control, $name: fails, as it must"
+        shown=$((shown + 1))
         return
     fi
     failed=1
@@ -57,14 +70,7 @@ change() { # FILE COMMAND
     fi
 }
 
-one() { # FILE
-    # shellcheck source=/dev/null
-    . "$1"
-    exit "$failed"
-}
-
-names=${*:-$(basename -s .sh tests/controls/*.sh)}
-for name in $names; do
-    (one "tests/controls/$name.sh") || failed=1
-done
+# shellcheck source=/dev/null
+. "tests/controls/$2.sh"
+[ "$shown" -gt 0 ] || { echo 'it shows nothing'; failed=1; }
 exit "$failed"

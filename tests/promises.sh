@@ -2,7 +2,7 @@
 # promises.sh: holds docs/PROMISES.md to the code. Every public function of a library crate stands there by its full name, `crate::module::function`, and no other does;
 # every wrong program or definition (`crate/name.edit`) stands there, and each that it names is there; every definition or law (`crate/specs/Module.name`) that it names
 # is there. And each public function has a contract of the kind that the page speaks of: no `requires`, and an `ensures` that is an equation or names a definition of the
-# page.
+# page. What is public in a form that this script can't read, is told.
 # promises.sh --list prints the public functions.
 set -euo pipefail
 cd "$(dirname "$0")/.."
@@ -23,6 +23,15 @@ public_functions() {
     for library in crates/*/src/lib.rt; do
         public_in "$library" "$(cut -d / -f 2 <<<"$library")"
     done | sort
+}
+
+# What is made public in none of these forms, and a module that stands inside its file: nothing below would see its functions.
+unread() {
+    local library
+    for library in crates/*/src/lib.rt; do
+        grep -rnE --include='*.rt' '\bpub\b|\bmod\b.*\{' "$(dirname "$library")" | grep -vE '^[^:]*:[0-9]+: *//' |
+            grep -vE '^[^:]*:[0-9]+: *pub((\(crate\))? fn [a-z]| extern "C" fn [a-z]| mod [a-z_0-9]+;$| (struct|enum) | const [A-Z]| [a-z_0-9]+: )' || true
+    done
 }
 
 # The `pub fn` of a library whose contract has a `requires`, or no `ensures` that says something. (Of a private module too: what only its own crate calls is
@@ -87,6 +96,7 @@ if [ "${1:-}" = --list ]; then
     exit
 fi
 
+while read -r line; do [ -z "$line" ] || tell "can't be read: $line"; done <<<"$(unread)"
 hold "$functions" "$(named '[a-z_0-9]+(::[a-z_0-9]+)+')" 'is missing' 'is no public function'
 hold "$(edits)" "$(named '[a-z_0-9]+/[a-z_0-9]+\.edit')" 'is not named' 'is not there'
 definitions=$(named '[a-z_0-9]+/(specs|proofs)/[A-Za-z]+(\.[^`. ]+)?')

@@ -25,6 +25,8 @@ fresh
 READER_CONSOLE=true
 fails 'a program that prints nothing' 'not the stored answer' tests/console.sh "$folder"
 fails 'a program that prints nothing, compared' 'they differ' tests/target/release/console_comparison
+READER_CONSOLE=$(tests/start.sh "$folder/not-there")
+fails 'a program that is not there' 'ended with' tests/console.sh "$folder"
 READER_CONSOLE=false
 fails 'a program that fails' 'ended with 1' tests/console.sh "$folder"
 fails 'a comparison of no input' 'never reached' tests/target/release/console_comparison 0

@@ -1,5 +1,5 @@
 # shellcheck shell=bash
-# ./test itself: it runs every script, or one that runs it, and every control.
+# The gate itself. It runs every script, or one that runs it, and every control.
 runs() { # SCRIPT
     grep -qE "^[^#]*(tests|\\\$here)/$1" test run tests/*.sh
 }
@@ -11,3 +11,28 @@ fails 'a script that nothing runs' '' runs nothing.sh
 for control in tests/controls/*.sh; do
     passes "$control is run" grep -qE "^[^#]*tests/controls\\.sh .*\\b$(basename "$control" .sh)\\b" test
 done
+
+# And it fails wherever one of its commands does: here each of them only says how it was called, and one after the other fails.
+copy test .ci/run
+mkdir -p kit bench target
+cat >kit/rt <<'END'
+#!/bin/sh
+call=${0##*/}
+for word in "$@"; do case $word in /*) ;; *) call="$call $word" ;; esac; done
+echo "$call" >>"$CALLS"
+[ "$call" != "$FAILING" ] || { echo "$call fails" >&2; exit 1; }
+echo "$call"
+END
+chmod +x kit/rt
+cp kit/rt kit/cargo
+for script in tests/*.sh; do cp kit/rt "$script"; done
+export CALLS=$room/calls FAILING='' PATH=$PWD/kit:$PATH
+
+ends_with_the_verdict() {
+    [ "$(.ci/run | tail -n 1)" = verdict.sh ]
+}
+
+passes 'the gate where all of it passes' ends_with_the_verdict
+for call in 'rt ci' must_fail.sh own.sh; do passes "the gate calls $call" grep -qx "$call" "$CALLS"; done
+mapfile -t calls < <(sort -u "$CALLS")
+for FAILING in "${calls[@]}"; do fails "the gate where this fails: $FAILING" "$FAILING fails" .ci/run; done

@@ -15,3 +15,8 @@ fails 'a wrong definition that is never tried' 'never tried' tests/verdict.sh "$
 copy crates crates.txt
 find crates -path '*/must-fail/*.edit' ! -path '*/code/*' -delete
 fails 'no wrong definition' 'nothing is shown' tests/verdict.sh "$log"
+copy crates crates.txt
+change crates.txt '/^console:/d'
+fails 'a crate that is not listed' 'not both in crates/ and in crates.txt: console' tests/verdict.sh "$log"
+echo "$((all - 1)) passed, 0 failed" >"$log"
+fails 'a crate that is not listed, and a verdict on the others' 'not both in crates/ and in crates.txt: console' tests/verdict.sh "$log"
