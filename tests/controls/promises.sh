@@ -20,11 +20,12 @@ added $'\n    ensures { λ r. ⌜ r ≡ x ⌝ }\n'
 passes 'a public function with a contract' tests/promises.sh
 change "$page" '/values::numbers::more/d'
 fails 'a public function that the page leaves out' 'values::numbers::more is missing' tests/promises.sh
-for form in 'pub const fn more(x: u8) -> u8 {' 'pub unsafe fn more(x: u8) -> u8 {' 'pub use more::more;' 'pub /* more */ fn more(x: u8) -> u8 {' 'mod more {'; do
-    copy crates docs
-    printf '\n%s\n' "$form" >>crates/values/src/numbers.rt
-    fails "a public function in another form, $form" "can't be read: crates/values/src/numbers.rt" tests/promises.sh
-done
+copy crates docs
+forms=('pub const fn more(x: u8) -> u8 {' 'pub unsafe fn more(x: u8) -> u8 {' 'pub use more::more;' 'pub /* more */ fn more(x: u8) -> u8 {' 'mod more {')
+printf '%s\n' "${forms[@]}" >>crates/values/src/numbers.rt
+fails 'public functions in other forms' "can't be read" tests/promises.sh
+tests/promises.sh >said || true
+for form in "${forms[@]}"; do passes "told in this form, $form" grep -qF ":$form" said; done
 copy crates docs
 change "$page" 's/`runs::bench`/`runs::benches`/'
 fails 'a function that is not there' 'runs::benches is no public function' tests/promises.sh

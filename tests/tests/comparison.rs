@@ -170,6 +170,22 @@ fn an_answer_that_its_question_can_t_have_is_told() {
 }
 
 #[test]
+fn a_value_that_has_no_row_is_told_though_both_give_it() {
+    let stray = Wrong {
+        record: |record| record.values[3] = Value::Stray { tag: 5, payload: 0 },
+        ..RIGHT
+    };
+    let report = compare(&stray, &stray, 1, 2_000);
+    assert!(report.failure.is_none());
+    let strange = report.coverage.strange();
+    assert_eq!(strange, ["a value Stray { tag: 5, payload: 0 }"]);
+    let consoles = compare_consoles(&Spaced, &Spaced, 1, FEW);
+    assert!(consoles.failure.is_none());
+    assert_eq!(consoles.coverage.strange(), ["value 3 "]);
+    assert!(consoles.verdict().is_err());
+}
+
+#[test]
 fn a_comparison_that_reaches_nothing_is_told() {
     let none = compare(&REFERENCE, &REFERENCE, 1, 0);
     assert!(none.failure.is_none());

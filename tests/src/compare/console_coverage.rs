@@ -43,7 +43,10 @@ impl ConsoleCoverage {
                 self.answers.count(question, number);
             }
             if let Some(value) = line.strip_prefix("value=") {
-                self.values[sort_of_value(value)] += 1;
+                match sort_of_value(value) {
+                    Some(sort) => self.values[sort] += 1,
+                    None => self.answers.wonder(format!("value {value}")),
+                }
             }
         }
     }
@@ -67,13 +70,14 @@ impl ConsoleCoverage {
     }
 }
 
-fn sort_of_value(value: &str) -> usize {
+fn sort_of_value(value: &str) -> Option<usize> {
     match value.as_bytes() {
-        [b'1', ..] => 1,
-        [b'2', ..] => 2,
-        [b'3', _, ..] => 3,
-        [b'3'] => 4,
-        _ => 0,
+        b"0" => Some(0),
+        b"1 0" | b"1 1" => Some(1),
+        [b'2', b' ', _, ..] => Some(2),
+        [b'3', b' ', _, ..] => Some(3),
+        b"3" => Some(4),
+        _ => None,
     }
 }
 

@@ -87,8 +87,9 @@ impl Coverage {
         self.answer(asked, record.number);
         if record.number == DONE {
             for value in record.values {
-                if let Some(sort) = sort_of_value(value) {
-                    self.values[sort] += 1;
+                match sort_of_value(value) {
+                    Some(sort) => self.values[sort] += 1,
+                    None => self.answers.wonder(format!("a value {value:?}")),
                 }
             }
         }

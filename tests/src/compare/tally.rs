@@ -32,6 +32,11 @@ impl Tally {
         }
     }
 
+    /// Something else that can't come.
+    pub fn wonder(&mut self, what: String) {
+        self.strange.insert(what);
+    }
+
     /// What was counted, by name.
     pub fn counts(&self) -> Vec<(String, u64)> {
         let named = |number: u32| ALL.iter().find(|known| known.0 == number);
@@ -45,8 +50,8 @@ impl Tally {
         all
     }
 
-    /// Answers that came and that their questions can't have. Both sides gave
-    /// them, so that no comparison would tell.
+    /// What came and can't come, as an answer that its question can't have. Both
+    /// sides gave it, so that no comparison would tell.
     pub fn strange(&self) -> Vec<String> {
         self.strange.iter().cloned().collect()
     }
