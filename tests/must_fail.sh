@@ -12,8 +12,8 @@
 # functions only their contracts, which no edit touches, so that each is judged by its own facts. What is not refused together is tried again alone.
 #
 # Controls, without which the script fails: each crate has an edit with a line `control: FUNCTION` that changes nothing but white space, of a function that calls what
-# other edits break. It must not be refused, neither among the others nor alone, and alone it leaves the crate proved. Nowhere may a function be refused that no edit
-# changes. And the program as it stands, compiled without a proof, prints what is stored. Needs what `rt check` leaves in target/.
+# other edits break. It must not be refused among the others; and where another is tried alone, it must not be refused alone, and leaves the crate proved. Nowhere may a
+# function be refused that no edit changes. And the program as it stands, compiled without a proof, prints what is stored. Needs what `rt check` leaves in target/.
 set -euo pipefail
 here=$(cd "$(dirname "$0")" && pwd)
 top=$(dirname "$here")
@@ -275,7 +275,7 @@ told() { # CRATE FOLDER EDIT
 }
 
 one_crate() { # CRATE
-    local folder edit wrong began=$SECONDS pending=() taken=() open=() shaped=() refused=''
+    local folder edit wrong control began=$SECONDS pending=() taken=() open=() shaped=() refused=''
     # beside what is proved: links reach no other file system
     folder=$(mktemp -d "$top/target/wrong.XXXXXX")
     # shellcheck disable=SC2064
@@ -293,12 +293,18 @@ one_crate() { # CRATE
         echo "$1: there is no control, or no edit beside it"
         exit 1
     fi
+    control=${pending[0]}
     as_checked "$1" "$folder"
     while [ ${#pending[@]} -gt 0 ]; do
         take
         together "$1" "$folder"
     done
-    for edit in ${open[@]+"${open[@]}"}; do alone "$1" "$folder" "$edit"; done
+    # a control that was refused isn't open
+    if [ "${open[*]-}" = "$control" ]; then
+        echo "$1/$(basename "$control" .edit): not refused, as a control must be"
+    else
+        for edit in ${open[@]+"${open[@]}"}; do alone "$1" "$folder" "$edit"; done
+    fi
     for edit in ${shaped[@]+"${shaped[@]}"}; do told "$1" "$folder" "$edit"; done
     echo "$1: $((SECONDS - began)) s"
     exit "$failed"
