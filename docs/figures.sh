@@ -1,5 +1,5 @@
 #!/usr/bin/env bash
-# figures.sh [LOG]: prints docs/FIGURES.md. What can be counted is counted; the seconds are taken from the log of a run of ./test, if one is given
+# figures.sh [LOG]: prints docs/FIGURES.md. What can be counted is counted; the seconds and the number of controls are taken from the log of a run of ./test, if one is given
 # (`time ./test 2>&1 | tee LOG`: rt tells how long each crate took, tests/must_fail.sh too, and `real` is the whole).
 set -euo pipefail
 if [ -n "${1:-}" ]; then log=$(realpath "$1"); else log=/dev/null; fi
@@ -123,7 +123,7 @@ gate() {
 cat <<'END'
 # Figures
 
-Printed by `docs/figures.sh LOG >docs/FIGURES.md`, where LOG is what `time ./test 2>&1 | tee LOG` left. Without a log the seconds are left out.
+Printed by `docs/figures.sh LOG >docs/FIGURES.md`, where LOG is what `time ./test 2>&1 | tee LOG` left. Without a log the seconds and the controls are left out.
 
 ## By crate
 

@@ -3,7 +3,9 @@
 set -eu
 cd "$(dirname "$0")/.."
 archive=$PWD/target/staticlib/libexports.a
-newest=$(find crates crates.txt "$(dirname "$(dirname "$(rt doc)")")/KIT-ID" -type f -newer "$archive" -print -quit 2>/dev/null || echo none)
+# shellcheck source=tests/kit.sh
+. tests/kit.sh
+newest=$(find crates crates.txt "$kit/KIT-ID" -type f -newer "$archive" -print -quit 2>/dev/null || echo none)
 if [ ! -f "$archive" ] || [ -n "$newest" ]; then
     mkdir -p target/log
     rt staticlib exports >target/log/archive 2>&1 || { tail -n 20 target/log/archive >&2; exit 1; }

@@ -4,8 +4,7 @@
 set -eu
 header=$1
 shift
-kit=$(dirname "$(dirname "$(rt doc)")")
-own=$kit/on/$(uname -m)
-[ -d "$own" ] || own=$kit
+# shellcheck source=tests/kit.sh
+. "$(dirname "$0")/kit.sh"
 exec "$own/toolchain/bin/clang" --target=x86_64-unknown-linux-gnu -std=c99 -pedantic -Wall -Wextra -Werror -fPIC -ffreestanding -nostdlibinc \
     -isystem "$(cc -print-file-name=include)" -I "$(dirname "$header")" "$@"

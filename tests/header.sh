@@ -1,10 +1,10 @@
 #!/usr/bin/env bash
-# header.sh [HEADER]: holds docs/styrmflo.h (or HEADER) to the exports. Of each function of crates/exports/src/lib.rt a pointer is made whose type is worked out from the
+# header.sh: holds docs/styrmflo.h to the exports. Of each function of crates/exports/src/lib.rt a pointer is made whose type is worked out from the
 # function's own signature, and the header's declaration is stored in it: another type, or no declaration, is an error of the C compiler. And the header declares no
 # function that isn't exported. (That the archive has these functions, and that W is what the header says, shows where it is called: tests/shipped.sh.)
 set -euo pipefail
 cd "$(dirname "$0")/.."
-header=${1:-docs/styrmflo.h}
+header=docs/styrmflo.h
 source=crates/exports/src/lib.rt
 room=$(mktemp -d)
 trap 'rm -rf "$room"' EXIT

@@ -7,8 +7,8 @@ cd "$(dirname "$0")/.."
 [ "$(uname -m)" != x86_64 ] || exec tests/archive.sh
 mkdir -p target/native
 rt check exports >target/native/log 2>&1 || { tail -n 20 target/native/log >&2; exit 1; }
-kit=$(dirname "$(dirname "$(rt doc)")")
-own=$kit/on/$(uname -m)
+# shellcheck source=tests/kit.sh
+. tests/kit.sh
 clang=$own/toolchain/bin/clang
 room=$(mktemp -d)
 trap 'rm -rf "$room"' EXIT

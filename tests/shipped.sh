@@ -5,9 +5,8 @@ set -eu
 cd "$(dirname "$0")/.."
 archive=${1:-$(tests/archive.sh)}
 folder=${2:-$PWD/target/shipped}
-kit=$(dirname "$(dirname "$(rt doc)")")
-own=$kit/on/$(uname -m)
-[ -d "$own" ] || own=$kit
+# shellcheck source=tests/kit.sh
+. tests/kit.sh
 mkdir -p "$folder"
 tests/c.sh docs/styrmflo.h -O2 -c tests/shipped/caller.c -o "$folder/caller.o"
 "$own/bin/rattle-link" --target x86_64-unknown-linux-gnu --toolchain "$own/toolchain" -o "$folder/caller" "$folder/caller.o" "$archive" >"$folder/log" 2>&1 || {

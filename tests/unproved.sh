@@ -5,9 +5,8 @@
 set -euo pipefail
 tree=$(cd "$1" && pwd)
 input=$2
-kit=$(dirname "$(dirname "$(rt doc)")")
-own=$kit/on/$(uname -m)
-[ -d "$own" ] || own=$kit
+# shellcheck source=tests/kit.sh
+. "$(dirname "$0")/kit.sh"
 room=$(mktemp -d)
 trap 'rm -rf "$room"' EXIT
 cp -RL "$tree/crates" "$room"

@@ -18,5 +18,8 @@ changed 'a declaration too many' 'styrmflo_more is declared and not exported' 's
 changed 'no C' 'not what is exported' 's/#include <stdint.h>//'
 changed 'empty' 'is exported and not declared' d
 copy crates/exports docs
+change crates/exports/src/lib.rt '0,/budget: u32/s//budget: i32/'
+fails 'header, an exported type that has no row' 'not what is exported' tests/header.sh
+copy crates/exports docs
 change crates/exports/src/lib.rt 's/^pub extern "C" fn /pub fn /'
 fails 'header, nothing exported' 'no function is exported' tests/header.sh

@@ -15,6 +15,7 @@ edit() { # NAME LINES..
 edit hollow 'refused: stay' 'file: src/lib.rt' 'old:     move_to(run, stage, run.at, run.frames)' 'new:     move_to(run,  stage, run.at, run.frames)'
 edit names_a_caller 'refused: stay' 'file: src/lib.rt' 'old:         visits: run.visits,' 'new:         visits: 7,'
 edit no_control 'control: move_to' 'file: src/lib.rt' 'old:         visits: run.visits,' 'new:         visits: 7,'
+edit nameless 'file: src/lib.rt' 'old:         visits: run.visits,' 'new:         visits: 7,'
 edit not_there 'refused: stay' 'file: src/lib.rt' 'old: not there' 'new: there'
 edit another_shape 'refused: ended_at' 'file: src/lib.rt' 'old:         Ending::Deep => Stage::Deep(k),' \
     'new:         Ending::Deep => if k == 0 { Stage::Deep(k) } else { Stage::Stuck(k) },'
@@ -30,6 +31,7 @@ passes 'wrong programs that are none' test "$ended" = 1
 says 'hollow: NOT REFUSED at stay'
 says 'names_a_caller: it changes move_to and not stay alone'
 says 'no_control: a control, and it changes more than white space'
+says 'nameless: it does not name one function'
 says 'not_there: an old text does not stand in its file just once'
 says 'another_shape: REFUSED FOR ITS SHAPE ALONE'
 says 'not_told: NOT TOLD by examples/case-a/case-a.console'

@@ -1,6 +1,7 @@
 //! Styrmflo, reader of message grammars for lift displays: a second, plain
 //! reading of document 01 and the means to compare it with the proved reader.
 
+pub mod arguments;
 pub mod boundary;
 pub mod compare;
 pub mod exported;

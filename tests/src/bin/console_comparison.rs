@@ -2,6 +2,7 @@
 //! command that starts it (tests/console_command.sh prints it).
 //! Arguments: how many inputs, the first seed.
 
+use reader_tests::arguments::asked;
 use reader_tests::compare::consoles::{compare_consoles, FEW};
 use reader_tests::program::Program;
 use reader_tests::subject::Reference;
@@ -9,11 +10,6 @@ use std::fs;
 use std::path::Path;
 
 fn main() {
-    let given: Vec<u64> = std::env::args()
-        .skip(1)
-        .map(|text| text.parse().expect("a number"))
-        .collect();
-    let asked = |index: usize, otherwise: u64| given.get(index).copied().unwrap_or(otherwise);
     let command = std::env::var("READER_CONSOLE").expect("READER_CONSOLE");
     let top = Path::new(env!("CARGO_MANIFEST_DIR")).join("..");
     let room = top.join("target/console_comparison");

@@ -1,15 +1,11 @@
 //! Compares the reference with itself, to show what the random cases reach.
 //! Arguments: how many cases, the first seed, W.
 
+use reader_tests::arguments::asked;
 use reader_tests::compare::compare;
 use reader_tests::subject::Reference;
 
 fn main() {
-    let given: Vec<u64> = std::env::args()
-        .skip(1)
-        .map(|text| text.parse().expect("a number"))
-        .collect();
-    let asked = |index: usize, otherwise: u64| given.get(index).copied().unwrap_or(otherwise);
     let reference = Reference {
         work_words: asked(2, 16_384) as usize,
     };

@@ -1,17 +1,14 @@
 //! Compares the shipped archive, called from C with docs/styrmflo.h, with the
-//! reference: a part of what library_comparison tries. READER_SHIPPED is the
-//! command that starts its caller (tests/shipped.sh prints it).
+//! reference: other cases than library_comparison tries, fewer, since each goes
+//! through a pipe, and some of the words as kinds. READER_SHIPPED is the command
+//! that starts its caller (tests/shipped.sh prints it).
 //! Arguments: how many cases, the first seed.
 
+use reader_tests::arguments::asked;
 use reader_tests::compare::exports::{compare_exports, Extent};
 use reader_tests::shipped::Shipped;
 
 fn main() {
-    let given: Vec<u64> = std::env::args()
-        .skip(1)
-        .map(|text| text.parse().expect("a number"))
-        .collect();
-    let asked = |index: usize, otherwise: u64| given.get(index).copied().unwrap_or(otherwise);
     let command = std::env::var("READER_SHIPPED").expect("READER_SHIPPED");
     let extent = Extent {
         cases: asked(0, 10_000),
