@@ -1,2 +1,4 @@
 pub mod Steps
-pub mod Levels
+pub mod Givens
+pub mod Walking
+pub mod Visits

@@ -1,1 +1,3 @@
 pub mod Meant
+pub mod Given
+pub mod Walks

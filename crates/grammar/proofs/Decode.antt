@@ -1,16 +1,17 @@
 -- In a sound table each node's tree is made of its parts' trees, and each rule of the grammar is that of its record. Assumes nothing.
-use mathlib.Core.Path.{_≡_, refl, ap, _∙_}
+use mathlib.Core.Path.{_≡_, refl, sym, ap, _∙_}
 use mathlib.Core.List.{List}
 use Prim.Native.Nat.{ℕ, zero, suc, _<_}
 use native.Mathlib.Nat.{zero-add}
 use native.Mathlib.Omega.{arith}
+use borrow.Author.Tests.{lt-ltb}
 use lib.ListN.{length}
 use Rattle.laws.specs.Tabulate.{at-tabulate, length-tabulate}
 use Rattle.grammar.specs.declared.Node.{Node}
 use Rattle.grammar.specs.declared.Node.the-variants as N
 use Rattle.grammar.specs.Words.{ruleCount, nodeCount, ruleWord, inheritedCount, returnedCount, nodeAt}
 use Rattle.grammar.specs.Tree.{Expr, Parsing, Rule, four, exprOf, parsingOf, exprWith, exprAt, parsingWith, parsingAt, ruleOf, ruleAt, grammarOf}
-use Rattle.grammar.proofs.Facts.{SoundTable}
+use Rattle.grammar.proofs.Facts.{SoundTable, sizes}
 use Rattle.grammar.proofs.Nodes.{NodeRight, node-right}
 
 -- ════ The tree is the same where the parts' trees are ════
@@ -77,11 +78,17 @@ module _ (words literals : List ℕ) (table : SoundTable words literals) where
       parsingOf-same words k (inheritedCount words) (returnedCount words) (exprAt words) (parsingWith f words) (parsingWith g words) (nodeAt words k)
       (λ a l. parsing-fuel f g a (omega arith) (omega arith) (omega arith)) (node-right words literals table k c)
 
+  expr-enough : (k : ℕ) → k < nodeCount words → exprAt words k ≡ exprWith (suc k) words k
+  unfolding exprAt
+  expr-enough k c = let most = sizes words literals table .most-nodes in rw (lt-ltb k 1024 (omega arith))
+
   -- An expression's tree is made of its parts' trees
   pub expr-tree : (k : ℕ) → k < nodeCount words → exprAt words k ≡ exprOf (exprAt words) k (nodeAt words k)
-  unfolding exprAt exprWith
+  unfolding exprWith
   expr-tree k c =
-      exprOf-same words k (exprWith k words) (exprAt words) (nodeAt words k) (λ a l. expr-fuel k (suc a) a (omega arith) l (omega arith))
+      expr-enough k c
+      ∙ exprOf-same words k (exprWith k words) (exprAt words) (nodeAt words k)
+      (λ a l. expr-fuel k (suc a) a (omega arith) l (omega arith) ∙ sym (expr-enough a (omega arith)))
       (node-right words literals table k c)
 
   -- A parsing node's tree is made of its parts' trees

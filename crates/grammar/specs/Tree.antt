@@ -1,8 +1,9 @@
 -- The trees that a table stands for. A node's tree carries the node's number, which answers name as their place.
 -- Assumes nothing.
 use mathlib.Core.List.{List, [], _∷_, map}
-use mathlib.Core.Bool.{Bool, false}
+use mathlib.Core.Bool.{Bool, false, cond}
 use Prim.Native.Nat.{ℕ, zero, suc}
+use lib.Dec.{ltb}
 use lib.IntN.{ℤ}
 use lib.ListN.{getD, take}
 use Rattle.grammar.specs.declared.Operator.{Operator}
@@ -105,13 +106,17 @@ parsingOf n m expr part k (N.Slot s) = empty k
 parsingOf n m expr part k (N.Binary op a b) = empty k
 parsingOf n m expr part k (N.Negation a) = empty k
 
--- Node k's tree. Parts have smaller numbers than their node, so fuel k + 1 is enough; proofs/Decode.antt shows that more makes no difference.
+-- Node k's tree. Parts have smaller numbers than their node, so fuel k + 1 is enough, and a table has at most 1,024 nodes, so fuel 1,024 is;
+-- proofs/Decode.antt shows that more makes no difference.
+abbrev pub levelsOf : ℕ → ℕ
+levelsOf k = cond (ltb k 1024) (suc k) 1024
+
 unfoldable pub exprWith : ℕ → List ℕ → ℕ → Expr
 exprWith zero words k = bool k false
 exprWith (suc fuel) words k = exprOf (exprWith fuel words) k (nodeAt words k)
 
 unfoldable pub exprAt : List ℕ → ℕ → Expr
-exprAt words k = exprWith (suc k) words k
+exprAt words k = exprWith (levelsOf k) words k
 
 unfoldable pub parsingWith : ℕ → List ℕ → ℕ → Parsing
 parsingWith zero words k = empty k

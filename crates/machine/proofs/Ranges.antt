@@ -214,7 +214,7 @@ module _ (words : List ℕ) (short : Short words) where
 
   expr-short : (k : ℕ) → ShortExpr (exprAt words k)
   unfolding exprAt
-  expr-short k = exprWith-short (suc k) k
+  expr-short k = exprWith-short _ k
 
 -- all slots, or all of a list, in range
 abbrev pub AllInRange : List Value → Type 0

@@ -10,8 +10,7 @@ use lib.Seq.{take-nil}
 use borrow.Author.Tests.{le-leb, lt-leb}
 use Rattle.grammar.specs.Tree.{Expr, four}
 use Rattle.grammar.specs.Types.{Env, andThen, has, haveAll, assign, assignAll}
-use Rattle.typing.specs.declared.slots.Typing.{Typing}
-use Rattle.typing.specs.Left.{left, onto, placeTyped, receivedOne}
+use Rattle.typing.specs.Places.{placeTyped, receivedOne}
 
 -- ════ Places with their types ════
 
@@ -70,13 +69,13 @@ module _ (part : ℕ → Expr) (env : Env) (a b c d t u v w : ℕ) where
 -- ════ Receiving slots ════
 
 -- past the last receiving slot nothing happens
-kept : (m i s t : ℕ) (o : Option Env) → m ≤ i → receivedOne m i s t (left o) ≡ left o
-unfolding receivedOne onto left
+kept : (m i s t : ℕ) (o : Option Env) → m ≤ i → receivedOne m i s t o ≡ o
+unfolding receivedOne
 kept m i s t none h = refl
 kept m i s t (some env) h = rw (le-leb m i h)
 
-taken : (m i s t : ℕ) (o : Option Env) → i < m → receivedOne m i s t (left o) ≡ left (andThen o (λ env. assign env s t))
-unfolding receivedOne onto left
+taken : (m i s t : ℕ) (o : Option Env) → i < m → receivedOne m i s t o ≡ andThen o (λ env. assign env s t)
+unfolding receivedOne
 taken m i s t none h = refl
 taken m i s t (some env) h = rw (lt-leb m i h)
 
@@ -92,8 +91,8 @@ done none ts = refl
 done (some env) ts = refl
 
 module _ (env : Env) (s t u v : ℕ) (a b c d : ℕ) where
-  abbrev received : ℕ → Typing
-  received m = receivedOne m 3 v d (receivedOne m 2 u c (receivedOne m 1 t b (receivedOne m 0 s a (left (some env)))))
+  abbrev received : ℕ → Option Env
+  received m = receivedOne m 3 v d (receivedOne m 2 u c (receivedOne m 1 t b (receivedOne m 0 s a (some env))))
 
   abbrev after₀ : Option Env
   after₀ = some env
@@ -110,19 +109,19 @@ module _ (env : Env) (s t u v : ℕ) (a b c d : ℕ) where
   abbrev after₄ : Option Env
   after₄ = andThen after₃ (λ env₁. assign env₁ v d)
 
-  pub four-received : (m : ℕ) → received m ≡ left (assignAll env (four m s t u v) (four m a b c d))
+  pub four-received : (m : ℕ) → received m ≡ assignAll env (four m s t u v) (four m a b c d)
   unfolding assignAll
   four-received zero = rw (kept 0 0 s a after₀ (omega arith), kept 0 1 t b after₀ (omega arith), kept 0 2 u c after₀ (omega arith), kept 0 3 v d after₀ (omega arith))
   four-received (suc zero) =
       rw (taken 1 0 s a after₀ (omega arith), kept 1 1 t b after₁ (omega arith), kept 1 2 u c after₁ (omega arith), kept 1 3 v d after₁ (omega arith))
-      (ap left (sym (done after₁ [])))
+      (sym (done after₁ []))
   four-received (suc (suc zero)) =
       rw (taken 2 0 s a after₀ (omega arith), taken 2 1 t b after₁ (omega arith), kept 2 2 u c after₂ (omega arith), kept 2 3 v d after₂ (omega arith))
-      (ap left (sym (more after₁ t b [] [] ∙ done after₂ [])))
+      (sym (more after₁ t b [] [] ∙ done after₂ []))
   four-received (suc (suc (suc zero))) =
       rw (taken 3 0 s a after₀ (omega arith), taken 3 1 t b after₁ (omega arith), taken 3 2 u c after₂ (omega arith), kept 3 3 v d after₃ (omega arith))
-      (ap left (sym (more after₁ t b (u ∷ []) (c ∷ []) ∙ more after₂ u c [] [] ∙ done after₃ [])))
+      (sym (more after₁ t b (u ∷ []) (c ∷ []) ∙ more after₂ u c [] [] ∙ done after₃ []))
   four-received (suc (suc (suc (suc n)))) =
       let m = suc (suc (suc (suc n))) in
       rw (taken m 0 s a after₀ (omega arith), taken m 1 t b after₁ (omega arith), taken m 2 u c after₂ (omega arith), taken m 3 v d after₃ (omega arith))
-      (rw (take-nil {A = ℕ} n) (ap left (sym (more after₁ t b (u ∷ v ∷ []) (c ∷ d ∷ []) ∙ more after₂ u c (v ∷ []) (d ∷ []) ∙ more after₃ v d [] [] ∙ done after₄ []))))
+      (rw (take-nil {A = ℕ} n) (sym (more after₁ t b (u ∷ v ∷ []) (c ∷ d ∷ []) ∙ more after₂ u c (v ∷ []) (d ∷ []) ∙ more after₃ v d [] [] ∙ done after₄ [])))

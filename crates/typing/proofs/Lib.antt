@@ -1,6 +1,10 @@
 pub mod Fours
-pub mod Leaving
-pub mod Parts
 pub mod Promise
 pub mod Walks
+pub mod Numbers
+pub mod Piles
+pub mod NodeKinds
+pub mod Judged
+pub mod Walked
+pub mod Leaves
 pub mod Whole

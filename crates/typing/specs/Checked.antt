@@ -4,7 +4,7 @@ use mathlib.Core.List.{List, [], _∷_}
 use lib.ListN.{getD}
 use Prim.Native.Nat.{ℕ, _<_}
 use Rattle.grammar.specs.declared.Verdict.the-variants.{Passed}
-use Rattle.grammar.specs.Words.{nodeCount, ruleCount}
+use Rattle.grammar.specs.Words.{nodeCount, ruleCount, kindAt}
 use Rattle.grammar.specs.Form.{tableCheck}
 
 -- the words of a table that has passed the checks 1 to 4
@@ -12,20 +12,26 @@ pub record Checked (words : List ℕ) : Type 0 where
   pub literals : List ℕ
   pub passed : tableCheck words literals ≡ Passed
 
--- a node of such a table
-pub record CheckedNode (words : List ℕ) (k : ℕ) : Type 0 where
+-- a node of such a table, and room for a walk over it
+pub record CheckedNode (words : List ℕ) (room k : ℕ) : Type 0 where
   pub table : Checked words
   pub there : k < nodeCount words
+  pub fits : k < room
 
--- place i of four, of which n name a node of such a table
-pub record CheckedPlace (words : List ℕ) (n i k : ℕ) : Type 0 where
-  pub table : Checked words
-  pub there : i < n → k < nodeCount words
+-- such a node and its kind
+pub record CheckedKind (words : List ℕ) (room k kind : ℕ) : Type 0 where
+  pub node : CheckedNode words room k
+  pub is : kind ≡ kindAt words k
 
--- four places, of which n name a node of such a table
-pub record CheckedPlaces (words : List ℕ) (n a b c d : ℕ) : Type 0 where
+-- place i of four, of which n name such a node
+pub record CheckedPlace (words : List ℕ) (room n i k : ℕ) : Type 0 where
   pub table : Checked words
-  pub there : (i : ℕ) → i < n → getD (a ∷ b ∷ c ∷ d ∷ []) i 0 < nodeCount words
+  pub there : i < n → (k < nodeCount words) × (k < room)
+
+-- four places, of which n name such a node
+pub record CheckedPlaces (words : List ℕ) (room n a b c d : ℕ) : Type 0 where
+  pub table : Checked words
+  pub there : (i : ℕ) → i < n → (getD (a ∷ b ∷ c ∷ d ∷ []) i 0 < nodeCount words) × (getD (a ∷ b ∷ c ∷ d ∷ []) i 0 < room)
 
 -- a rule of such a table
 pub record CheckedRule (words : List ℕ) (r : ℕ) : Type 0 where

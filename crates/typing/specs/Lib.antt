@@ -1,2 +1,6 @@
 pub mod Checked
-pub mod Left
+pub mod Slots
+pub mod Pile
+pub mod Terms
+pub mod Walk
+pub mod Places

@@ -1,14 +1,17 @@
 // The type rules for whole rules.
 ghost use mathlib.Core.Path.{_≡_};
-ghost use Prim.Native.Nat.{_+_};
+ghost use Prim.Native.Nat.{_+_, _<_};
+ghost use lib.ListN.{length};
 ghost use Rattle.grammar.specs.Words.{inheritedCount, ruleWord};
 ghost use Rattle.grammar.specs.Tree.{grammarOf, ruleOf};
 ghost use Rattle.grammar.specs.Types.{startEnv, typedRule};
 ghost use Rattle.grammar.specs.Answer.{typeRules};
 ghost use Rattle.typing.specs.Checked.{Checked, CheckedRule};
-ghost use Rattle.typing.specs.Left.{inheritedAt, inheritedTypes, returnedTyped};
-use crate::expressions::places_typed;
+ghost use Rattle.typing.specs.Places.{inheritedAt, inheritedTypes, returnedTyped};
+ghost use Rattle.typing.specs.Slots.{typesIn};
 use crate::parsing::leaves;
+use crate::slots::BROKEN;
+use crate::terms::places_typed;
 use grammar::Verdict;
 use table::records::body;
 use table::records::inherited_count;
@@ -30,21 +33,23 @@ fn inherited_slot(words: &[u16], r: u16, i: u16) -> u16
 }
 
 // "A rule starts with its inherited slots set, others unset."
-fn start_slots(words: &[u16], r: u16) -> [u16; 16]
-    ensures { λ slots. ⌜ slots ≡ startEnv (inheritedTypes (now (words .entry)) r) ⌝ }
+fn start_slots(words: &[u16], r: u16) -> u64
+    requires { ⌜ CheckedRule (now words) r ⌝ }
+    ensures { λ slots. ⌜ (slots < 281474976710656) × (typesIn slots ≡ startEnv (inheritedTypes (now (words .entry)) r)) ⌝ }
 {
     let a = inherited_slot(words, r, 0);
     let b = inherited_slot(words, r, 1);
     let c = inherited_slot(words, r, 2);
     let d = inherited_slot(words, r, 3);
-    [a, b, c, d, 0, 0, 0, 0, 0, 0, 0, 0, 0, 0, 0, 0]
+    a as u64 + 8 * (b as u64 + 8 * (c as u64 + 8 * d as u64))
 }
 
 // "after the body each returned node has its declared type"
-fn returned_typed(words: &[u16], slots: [u16; 16], r: u16) -> bool
-    requires { ⌜ CheckedRule (now words) r ⌝ }
-    ensures { λ x. ⌜ x ≡ returnedTyped (now (words .entry)) slots r ⌝ }
+fn returned_typed(words: &[u16], pile: &mut [u64], slots: u64, r: u16) -> bool
+    requires { ⌜ CheckedRule (now words) r × (length (now pile) ≡ 1024) ⌝ }
+    ensures { λ x. ⌜ x ≡ returnedTyped (now (words .entry)) (typesIn slots) r ⌝ }
 {
+    let n = returned_count(words, r);
     let a = returned_node(words, r, 0);
     let b = returned_node(words, r, 1);
     let c = returned_node(words, r, 2);
@@ -53,45 +58,43 @@ fn returned_typed(words: &[u16], slots: [u16; 16], r: u16) -> bool
     let u = returned_type(words, r, 1);
     let v = returned_type(words, r, 2);
     let w = returned_type(words, r, 3);
-    places_typed(
-        words,
-        slots,
-        returned_count(words, r),
-        a,
-        b,
-        c,
-        d,
-        t,
-        u,
-        v,
-        w,
-    )
+    places_typed(words, pile, slots, n, a, b, c, d, t, u, v, w)
 }
 
-fn rule_typed(words: &[u16], r: u16) -> bool
-    requires { ⌜ CheckedRule (now words) r ⌝ }
+fn rule_typed(words: &[u16], pile: &mut [u64], r: u16) -> bool
+    requires { ⌜ CheckedRule (now words) r × (length (now pile) ≡ 1024) ⌝ }
     ensures { λ x. ⌜ x ≡ typedRule (grammarOf (now (words .entry))) (ruleOf (grammarOf (now (words .entry))) r) ⌝ }
 {
-    let left = leaves(words, start_slots(words, r), body(words, r));
-    if !left.keeps {
+    let start = start_slots(words, r);
+    let node = body(words, r);
+    let left = leaves(words, pile, start, node);
+    if BROKEN <= left {
         return false;
     }
-    let slots = left.slots;
-    returned_typed(words, slots, r)
+    returned_typed(words, pile, left, r)
 }
 
 // "a rule fails the type rules": "smallest such rule"
-pub(crate) fn typed_rules(words: &[u16]) -> Verdict
-    requires { ⌜ Checked (now words) ⌝ }
+fn first_untyped(words: &[u16], pile: &mut [u64]) -> Verdict
+    requires { ⌜ Checked (now words) × (length (now pile) ≡ 1024) ⌝ }
     ensures { λ v. ⌜ v ≡ typeRules (now (words .entry)) ⌝ }
 {
     let rules = rule_count(words);
     let mut r: u16 = 0;
     while r < rules {
-        if !rule_typed(words, r) {
+        if !rule_typed(words, pile, r) {
             return Verdict::Untyped(r);
         }
         r += 1;
     }
     Verdict::Passed
+}
+
+// The pile of all walks is made once: 1,024 places, as many as a table has nodes.
+pub(crate) fn typed_rules(words: &[u16]) -> Verdict
+    requires { ⌜ Checked (now words) ⌝ }
+    ensures { λ v. ⌜ v ≡ typeRules (now (words .entry)) ⌝ }
+{
+    let mut pile = [0u64; 1024];
+    first_untyped(words, &mut pile)
 }

@@ -1,73 +1,48 @@
-// The types of a rule's sixteen slots, by value: 0 where a slot is unset. Nothing here looks at a table.
+// The types of a rule's sixteen slots as one number, three bits to a slot: 0 where a slot is unset. Nothing here looks at a table.
 ghost use mathlib.Core.Path.{_≡_};
-ghost use mathlib.Core.Option.{none};
-ghost use mathlib.Core.Bool.{_||_};
-ghost use lib.Dec.{eqb};
-ghost use lib.ListN.{getD};
-ghost use Rattle.laws.specs.Same.{same};
+ghost use Prim.Native.Nat.{_<_};
+ghost use mathlib.Core.Option.{some};
+ghost use lib.ListN.{getD, set};
 ghost use Rattle.grammar.specs.Types.{assign};
-ghost use Rattle.typing.specs.Left.{left};
+ghost use Rattle.typing.specs.Slots.{told, typesIn};
 
-// What a parsing node leaves: whether it keeps the type rules, and the slots' types; all unset where it breaks one.
-pub struct Typing {
-    pub keeps: bool,
-    pub slots: [u16; 16],
-}
+// The first number that has no room in sixteen slots: it stands for a broken rule.
+pub(crate) const BROKEN: u64 = 281474976710656;
 
-pub(crate) fn broken() -> Typing
-    ensures { λ r. ⌜ r ≡ left none ⌝ }
+// The type of a slot; a slot past the sixteen has none.
+pub(crate) fn slot_type(slots: u64, s: u16) -> u16
+    ensures { λ r. ⌜ r ≡ getD (typesIn slots) s 0 ⌝ }
 {
-    Typing {
-        keeps: false,
-        slots: [0u16; 16],
+    if s < 16 {
+        ((slots >> (3 * s as u64)) % 8) as u16
+    } else {
+        0
     }
 }
 
-// The type of a slot; a slot past the sixteen has none.
-pub(crate) fn slot_type(slots: [u16; 16], s: u16) -> u16
-    ensures { λ r. ⌜ r ≡ getD slots s 0 ⌝ }
+// An unset slot takes a type.
+fn with_type(slots: u64, s: u16, t: u16) -> u64
+    requires { ⌜ (slots < 281474976710656) × (t < 8) × (getD (typesIn slots) s 0 ≡ 0) ⌝ }
+    ensures { λ r. ⌜ told r ≡ some (set (typesIn slots) s t) ⌝ }
 {
-    let at = s as usize;
-    if at < 16 { slots[at] } else { 0 }
+    if s < 16 {
+        slots + ((t as u64) << (3 * s as u64))
+    } else {
+        slots
+    }
 }
 
 // "an unset slot takes the type; a set one must have it already"
-fn may_take(old: u16, t: u16) -> bool
-    ensures { λ r. ⌜ r ≡ (eqb old 0 || eqb old t) ⌝ }
+pub(crate) fn assigned(slots: u64, s: u16, t: u16) -> u64
+    requires { ⌜ (slots < 281474976710656) × (t < 8) ⌝ }
+    ensures { λ r. ⌜ told r ≡ assign (typesIn slots) s t ⌝ }
 {
-    if old == 0 {
-        return true;
+    let old = slot_type(slots, s);
+    if old == t {
+        return slots;
     }
-    old == t
-}
-
-pub(crate) fn assigned(slots: [u16; 16], s: u16, t: u16) -> Typing
-    ensures { λ r. ⌜ r ≡ left (assign slots s t) ⌝ }
-{
-    if !may_take(slot_type(slots, s), t) {
-        return broken();
+    if old != 0 {
+        return BROKEN;
     }
-    let at = s as usize;
-    let mut next = slots;
-    if at < 16 {
-        next[at] = t;
-    }
-    Typing {
-        keeps: true,
-        slots: next,
-    }
-}
-
-// Are two slots' types the same?
-pub(crate) fn same_slots(a: [u16; 16], b: [u16; 16]) -> bool
-    ensures { λ r. ⌜ r ≡ same a b ⌝ }
-{
-    let mut i: usize = 0;
-    while i < 16 {
-        if a[i] != b[i] {
-            return false;
-        }
-        i += 1;
-    }
-    true
+    with_type(slots, s, t)
 }

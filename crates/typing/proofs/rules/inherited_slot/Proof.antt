@@ -1,4 +1,4 @@
-use Rattle.typing.specs.Left.{inheritedAt}
+use Rattle.typing.specs.Places.{inheritedAt}
 use borrow.Author.Tests.{lt-ltb, le-ltb}
 use borrow.Author.Needs.{needs}
 use Rattle.typing.proofs.rules.inherited_slot.Statement.{statement}

@@ -1,55 +1,30 @@
-use Rattle.typing.proofs.Leaving.{assign-refused, assign-taken, assign-past}
-use Rattle.typing.specs.Left.{left}
-use borrow.Author.Tests.{not-true, not-false}
 use native.Mathlib.Omega.{arith}
-use mathlib.Core.Path.{_∙_}
+use mathlib.Core.Path.{sym, _∙_}
+use Rattle.typing.proofs.Numbers.{told-some, told-none, assign-same, assign-other, assign-unset}
 use borrow.Author.Needs.{needs}
 use Rattle.typing.proofs.slots.assigned.Statement.{statement}
 use Rattle.typing.proofs.slots.assigned.Tie as tie
 
--- src/slots.rt:43:18
+-- src/slots.rt:40:9
 slot-type-requires : tie.Need-slot-type-requires
 slot-type-requires c κs = search needs
 
--- src/slots.rt:43:9
-may-take-requires : tie.Need-may-take-requires
-may-take-requires c κs = search needs
-
--- src/slots.rt:44:9
-broken-requires : tie.Need-broken-requires
-broken-requires c κs = search needs
-
--- src/slots.rt:44:9
+-- src/slots.rt:42:9
 returns : tie.Need-returns
-returns c = c .broken .ensures ∙ assign-refused (c .before .before .before .before .args .slots) (c .before .before .before .before .args .s) (c .before .before .before .before .args .t) (c .before .before .before .slot-type .ensures) (c .before .before .may-take .ensures) (not-true (c .before .before .may-take .result) (c .before .if1 .taken))
+returns c = told-some (c .before .before .args .slots) (c .before .before .pre .0) ∙ assign-same (c .before .before .args .slots) (c .before .before .args .s) (c .before .before .args .t) (sym (c .if1 .taken) ∙ c .before .slot-type .ensures)
 
--- src/slots.rt:49:9
-mul-next : tie.Need-mul-next
-mul-next c = search needs
-
--- src/slots.rt:49:9
-array-write-next : tie.Need-array-write-next
-array-write-next c = search needs
-
--- src/slots.rt:40:1
+-- src/slots.rt:45:9
 returns-2 : tie.Need-returns-2
-unfolding left
-returns-2 c = assign-taken (c .before .before .before .before .args .slots) (c .before .before .before .before .args .s) (c .before .before .before .before .args .t) (c .before .before .before .slot-type .ensures) (c .before .before .may-take .ensures) (not-false (c .before .before .may-take .result) (c .before .if1 .left))
+returns-2 c = told-none 281474976710656 (omega arith) ∙ assign-other (c .before .before .before .args .slots) (c .before .before .before .args .s) (c .before .before .before .args .t) (λ e. c .if2 .taken (c .before .before .slot-type .ensures ∙ e)) (λ e. c .before .if1 .left (c .before .before .slot-type .ensures ∙ e))
 
--- src/slots.rt:40:1
+-- src/slots.rt:47:5
+with-type-requires : tie.Need-with-type-requires
+with-type-requires c κs = search needs
+
+-- src/slots.rt:36:1
 returns-3 : tie.Need-returns-3
-unfolding left
-returns-3 c = assign-past (c .before .before .before .before .args .slots) (c .before .before .before .before .args .s) (c .before .before .before .before .args .t) (c .before .before .before .slot-type .ensures) (c .before .before .may-take .ensures) (not-false (c .before .before .may-take .result) (c .before .if1 .left)) (omega (arith, c .before .before .before .before .good .0 .1 .0 .1))
+returns-3 c = c .with-type .ensures ∙ assign-unset (c .before .before .before .before .args .slots) (c .before .before .before .before .args .s) (c .before .before .before .before .args .t) (omega (arith, c .before .before .before .slot-type .ensures, c .before .if2 .left))
 
 pub assigned-spec : {M : Type 1} → statement M
 assigned-spec =
-    tie.close
-    (tie.spec
-    slot-type-requires
-    may-take-requires
-    broken-requires
-    returns
-    mul-next
-    array-write-next
-    returns-2
-    returns-3)
+    tie.close (tie.spec slot-type-requires returns returns-2 with-type-requires returns-3)

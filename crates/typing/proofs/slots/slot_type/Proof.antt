@@ -1,25 +1,27 @@
-use mathlib.Core.Path.{sym}
-use native.Mathlib.Omega.{arith}
-use lib.ListN.{List·getD-eq-default}
+use Rattle.typing.proofs.Numbers.{slot-in, slot-past}
 use borrow.Author.Needs.{needs}
 use Rattle.typing.proofs.slots.slot_type.Statement.{statement}
 use Rattle.typing.proofs.slots.slot_type.Tie as tie
 
--- src/slots.rt:25:18
+-- src/slots.rt:17:21
 mul-result : tie.Need-mul-result
 mul-result c = search needs
 
--- src/slots.rt:25:18
-array-read-result : tie.Need-array-read-result
-array-read-result c = search needs
+-- src/slots.rt:17:11
+shr-result : tie.Need-shr-result
+shr-result c = search needs
 
--- src/slots.rt:21:1
+-- src/slots.rt:17:9
+cast-result : tie.Need-cast-result
+cast-result c = search needs
+
+-- src/slots.rt:13:1
 returns : tie.Need-returns
-returns c = search needs
+returns c = slot-in (c .before .args .slots) (c .before .args .s) (c .if1 .taken)
 
--- src/slots.rt:21:1
+-- src/slots.rt:13:1
 returns-2 : tie.Need-returns-2
-returns-2 c = sym (List·getD-eq-default (c .before .args .t1) 0 (omega (arith, c .before .good .0 .1 .0 .1)))
+returns-2 c = slot-past (c .before .args .slots) (c .before .args .s) (c .if1 .left)
 
 pub slot-type-spec : {M : Type 1} → statement M
-slot-type-spec = tie.close (tie.spec mul-result array-read-result returns returns-2)
+slot-type-spec = tie.close (tie.spec mul-result shr-result cast-result returns returns-2)

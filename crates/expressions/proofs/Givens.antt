@@ -1,0 +1,293 @@
+-- Results in two words: what code does with them is what the written meaning does with values. Assumes nothing.
+use mathlib.Core.Path.{_≡_, refl, sym, _∙_}
+use mathlib.Core.Bool.{Bool, true, false, not, Bool·beq}
+use mathlib.Core.List.{List}
+use Prim.Native.Nat.{ℕ, zero, suc, _+_, _*_, _/_, _%_, _<_, _≤_}
+use native.Mathlib.Omega.{arith}
+use borrow.Author.Tests.{ne-eqb, le-ltb}
+use lib.Dec.{eqb}
+use lib.IntN.{ℤ}
+use lib.ListN.{getD, length, take, length-take}
+use mir.Syntax.{w32}
+use mir.Val.{SFits, boolByte}
+use Rattle.laws.specs.Tests.{never}
+use Rattle.grammar.specs.declared.Fault.{Fault}
+use Rattle.grammar.specs.declared.Fault.the-variants.{Overflow, ZeroDivisor}
+use Rattle.grammar.specs.declared.Number.{Number}
+use Rattle.grammar.specs.declared.Number.the-variants.{Is, Not}
+use Rattle.grammar.specs.declared.Span.{Span}
+use Rattle.grammar.specs.declared.Value.{Value}
+use Rattle.grammar.specs.declared.Value.the-variants as Val
+use Rattle.grammar.specs.Run.{Slots}
+use Rattle.grammar.specs.Values.{Evaluated, value, after, stuck, truth, numberAt, present, wantInteger, wantBool, wantText, integers, sameInteger, sameTexts, equal, operate, negated}
+use Rattle.values.specs.Slots.{valueOf, slotAt}
+use Rattle.values.specs.Words.{wordOf, integerOf}
+use Rattle.values.proofs.Complement.{signed-is, integer-word}
+use Rattle.values.proofs.SlotList.{slot-read, slot-past, slot-among-first}
+use Rattle.expressions.specs.Meant.{ofIntegers}
+use Rattle.expressions.specs.Given.{givenOf, textTag, spanOf, operatorOf, leafOf}
+
+-- ════ Ends and values ════
+
+pub stuck-is : (k : ℕ) → k < 65536 → _≡_ {A = Evaluated Value} (givenOf 5 k) (stuck k)
+unfolding givenOf
+stuck-is k h = let e : k % 65536 ≡ k = omega arith in rw e
+
+pub value-given : (tag payload : ℕ) → tag < 5 → givenOf tag payload ≡ value (valueOf tag payload)
+unfolding givenOf valueOf
+value-given zero payload h = refl
+value-given (suc zero) payload h = refl
+value-given (suc (suc zero)) payload h = refl
+value-given (suc (suc (suc zero))) payload h = refl
+value-given (suc (suc (suc (suc zero)))) payload h = refl
+value-given (suc (suc (suc (suc (suc tag))))) payload h = absurd (omega arith)
+
+pub end-given : (tag payload : ℕ) (f : Value → Evaluated Value) → 5 ≤ tag → givenOf tag payload ≡ after (givenOf tag payload) f
+unfolding givenOf
+end-given zero payload f h = absurd (omega arith)
+end-given (suc zero) payload f h = absurd (omega arith)
+end-given (suc (suc zero)) payload f h = absurd (omega arith)
+end-given (suc (suc (suc zero))) payload f h = absurd (omega arith)
+end-given (suc (suc (suc (suc zero)))) payload f h = absurd (omega arith)
+end-given (suc (suc (suc (suc (suc zero))))) payload f h = refl
+end-given (suc (suc (suc (suc (suc (suc zero)))))) payload f h = refl
+end-given (suc (suc (suc (suc (suc (suc (suc zero))))))) payload f h = refl
+end-given (suc (suc (suc (suc (suc (suc (suc (suc tag)))))))) payload f h = refl
+
+-- 5 and what has no line
+pub stuck-given : (tag payload : ℕ) → 5 ≤ tag → (tag ≡ 6 → ⊥) → (tag ≡ 7 → ⊥) → _≡_ {A = Evaluated Value} (stuck (payload % 65536)) (givenOf tag payload)
+unfolding givenOf
+stuck-given zero payload h a b = absurd (omega arith)
+stuck-given (suc zero) payload h a b = absurd (omega arith)
+stuck-given (suc (suc zero)) payload h a b = absurd (omega arith)
+stuck-given (suc (suc (suc zero))) payload h a b = absurd (omega arith)
+stuck-given (suc (suc (suc (suc zero)))) payload h a b = absurd (omega arith)
+stuck-given (suc (suc (suc (suc (suc zero))))) payload h a b = refl
+stuck-given (suc (suc (suc (suc (suc (suc zero)))))) payload h a b = absurd (a refl)
+stuck-given (suc (suc (suc (suc (suc (suc (suc zero))))))) payload h a b = absurd (b refl)
+stuck-given (suc (suc (suc (suc (suc (suc (suc (suc tag)))))))) payload h a b = refl
+
+-- ════ Values of another type ════
+
+pub no-integer : (k tag payload : ℕ) (f : ℤ → Evaluated Value) → (tag ≡ 2 → ⊥) → stuck k ≡ wantInteger k (valueOf tag payload) f
+unfolding valueOf
+no-integer k zero payload f h = refl
+no-integer k (suc zero) payload f h = refl
+no-integer k (suc (suc zero)) payload f h = absurd (h refl)
+no-integer k (suc (suc (suc zero))) payload f h = refl
+no-integer k (suc (suc (suc (suc zero)))) payload f h = refl
+no-integer k (suc (suc (suc (suc (suc tag))))) payload f h = refl
+
+pub no-bool : (k tag payload : ℕ) (f : Bool → Evaluated Value) → (tag ≡ 1 → ⊥) → stuck k ≡ wantBool k (valueOf tag payload) f
+unfolding valueOf
+no-bool k zero payload f h = refl
+no-bool k (suc zero) payload f h = absurd (h refl)
+no-bool k (suc (suc zero)) payload f h = refl
+no-bool k (suc (suc (suc zero))) payload f h = refl
+no-bool k (suc (suc (suc (suc zero)))) payload f h = refl
+no-bool k (suc (suc (suc (suc (suc tag))))) payload f h = refl
+
+no-text : (k tag payload : ℕ) (f : Span → Evaluated Value) → textTag tag ≡ false → stuck k ≡ wantText k (valueOf tag payload) f
+unfolding valueOf
+no-text k zero payload f h = refl
+no-text k (suc zero) payload f h = refl
+no-text k (suc (suc zero)) payload f h = refl
+no-text k (suc (suc (suc zero))) payload f h = never (sym h)
+no-text k (suc (suc (suc (suc zero)))) payload f h = never (sym h)
+no-text k (suc (suc (suc (suc (suc tag))))) payload f h = refl
+
+text-past : (tag : ℕ) → 5 ≤ tag → textTag tag ≡ false
+text-past tag h = rw (le-ltb tag 3 (omega arith), le-ltb tag 5 h)
+
+a-text : (tag payload : ℕ) → textTag tag ≡ true → valueOf tag payload ≡ Val.Text (spanOf tag payload)
+unfolding valueOf
+a-text zero payload h = never h
+a-text (suc zero) payload h = never h
+a-text (suc (suc zero)) payload h = never h
+a-text (suc (suc (suc zero))) payload h = refl
+a-text (suc (suc (suc (suc zero)))) payload h = refl
+a-text (suc (suc (suc (suc (suc tag))))) payload h = never (sym (text-past (suc (suc (suc (suc (suc tag))))) (omega arith)) ∙ h)
+
+-- ════ Equal ════
+
+module _ (m l : List ℕ) (k vt vp wt wp : ℕ) where
+  pub equal-integers : vt ≡ 2 → wt ≡ 2 → truth (sameInteger (integerOf vp) (integerOf wp)) ≡ equal m l k (valueOf vt vp) (valueOf wt wp)
+  unfolding valueOf equal
+  equal-integers e f = rw (e, f)
+
+  pub equal-no-integer : vt ≡ 2 → (wt ≡ 2 → ⊥) → stuck k ≡ equal m l k (valueOf vt vp) (valueOf wt wp)
+  unfolding valueOf equal
+  equal-no-integer e f = rw e (no-integer k wt wp _ f)
+
+  pub equal-bools : vt ≡ 1 → wt ≡ 1 → truth (Bool·beq (eqb vp 1) (eqb wp 1)) ≡ equal m l k (valueOf vt vp) (valueOf wt wp)
+  unfolding valueOf equal
+  equal-bools e f = rw (e, f)
+
+  pub equal-no-bool : vt ≡ 1 → (wt ≡ 1 → ⊥) → stuck k ≡ equal m l k (valueOf vt vp) (valueOf wt wp)
+  unfolding valueOf equal
+  equal-no-bool e f = rw e (no-bool k wt wp _ f)
+
+  pub equal-texts : textTag vt ≡ true → textTag wt ≡ true → truth (sameTexts m l (spanOf vt vp) (spanOf wt wp)) ≡ equal m l k (valueOf vt vp) (valueOf wt wp)
+  unfolding equal
+  equal-texts e f = rw (a-text vt vp e, a-text wt wp f)
+
+  pub equal-no-text : textTag vt ≡ true → textTag wt ≡ false → stuck k ≡ equal m l k (valueOf vt vp) (valueOf wt wp)
+  unfolding equal
+  equal-no-text e f = rw (a-text vt vp e) (no-text k wt wp _ f)
+
+pub equal-none : (m l : List ℕ) (k vt vp : ℕ) (w : Value) → (vt ≡ 2 → ⊥) → (vt ≡ 1 → ⊥) → textTag vt ≡ false → stuck k ≡ equal m l k (valueOf vt vp) w
+unfolding valueOf equal
+equal-none m l k zero vp w a b c = refl
+equal-none m l k (suc zero) vp w a b c = absurd (b refl)
+equal-none m l k (suc (suc zero)) vp w a b c = absurd (a refl)
+equal-none m l k (suc (suc (suc zero))) vp w a b c = never (sym c)
+equal-none m l k (suc (suc (suc (suc zero)))) vp w a b c = never (sym c)
+equal-none m l k (suc (suc (suc (suc (suc vt))))) vp w a b c = refl
+
+-- ════ Operators by number ════
+
+pub not-of-integers : (j k : ℕ) (a b : ℤ) → (j ≡ 0 → ⊥) → (j ≡ 1 → ⊥) → (j ≡ 2 → ⊥) → (j ≡ 3 → ⊥) → (j ≡ 5 → ⊥) → stuck k ≡ ofIntegers (operatorOf j) k a b
+unfolding operatorOf ofIntegers
+not-of-integers zero k a b n0 n1 n2 n3 n5 = absurd (n0 refl)
+not-of-integers (suc zero) k a b n0 n1 n2 n3 n5 = absurd (n1 refl)
+not-of-integers (suc (suc zero)) k a b n0 n1 n2 n3 n5 = absurd (n2 refl)
+not-of-integers (suc (suc (suc zero))) k a b n0 n1 n2 n3 n5 = absurd (n3 refl)
+not-of-integers (suc (suc (suc (suc zero)))) k a b n0 n1 n2 n3 n5 = refl
+not-of-integers (suc (suc (suc (suc (suc zero))))) k a b n0 n1 n2 n3 n5 = absurd (n5 refl)
+not-of-integers (suc (suc (suc (suc (suc (suc zero)))))) k a b n0 n1 n2 n3 n5 = refl
+not-of-integers (suc (suc (suc (suc (suc (suc (suc zero))))))) k a b n0 n1 n2 n3 n5 = refl
+not-of-integers (suc (suc (suc (suc (suc (suc (suc (suc j)))))))) k a b n0 n1 n2 n3 n5 = refl
+
+module _ (m l : List ℕ) (k : ℕ) where
+  -- arithmetic and greater
+  on-integers : (j : ℕ) (v w : Value) → (j ≡ 4 → ⊥) → j < 6 → integers k v w (ofIntegers (operatorOf j) k) ≡ operate m l (operatorOf j) k v w
+  unfolding operatorOf operate ofIntegers
+  on-integers zero v w a h = refl
+  on-integers (suc zero) v w a h = refl
+  on-integers (suc (suc zero)) v w a h = refl
+  on-integers (suc (suc (suc zero))) v w a h = refl
+  on-integers (suc (suc (suc (suc zero)))) v w a h = absurd (a refl)
+  on-integers (suc (suc (suc (suc (suc zero))))) v w a h = refl
+  on-integers (suc (suc (suc (suc (suc (suc j)))))) v w a h = absurd (omega arith)
+
+  -- and, or
+  on-bool : (j : ℕ) (v w : Value) → 6 ≤ j → wantBool k w truth ≡ operate m l (operatorOf j) k v w
+  unfolding operatorOf operate
+  on-bool zero v w h = absurd (omega arith)
+  on-bool (suc zero) v w h = absurd (omega arith)
+  on-bool (suc (suc zero)) v w h = absurd (omega arith)
+  on-bool (suc (suc (suc zero))) v w h = absurd (omega arith)
+  on-bool (suc (suc (suc (suc zero)))) v w h = absurd (omega arith)
+  on-bool (suc (suc (suc (suc (suc zero))))) v w h = absurd (omega arith)
+  on-bool (suc (suc (suc (suc (suc (suc zero)))))) v w h = refl
+  on-bool (suc (suc (suc (suc (suc (suc (suc zero))))))) v w h = refl
+  on-bool (suc (suc (suc (suc (suc (suc (suc (suc j)))))))) v w h = refl
+
+  pub operate-equal : {j : ℕ} (v w : Value) → j ≡ 4 → equal m l k v w ≡ operate m l (operatorOf j) k v w
+  unfolding operatorOf operate
+  operate-equal v w e = rw e
+
+  pub operate-bool : (j : ℕ) (v : Value) (wt wp : ℕ) → 6 ≤ j → wt ≡ 1 → givenOf wt wp ≡ operate m l (operatorOf j) k v (valueOf wt wp)
+  unfolding givenOf valueOf
+  operate-bool j v wt wp h e = rw e (on-bool j v (Val.Bool (eqb wp 1)) h)
+
+  pub operate-no-bool : (j : ℕ) (v : Value) (wt wp : ℕ) → 6 ≤ j → (wt ≡ 1 → ⊥) → stuck k ≡ operate m l (operatorOf j) k v (valueOf wt wp)
+  operate-no-bool j v wt wp h e = no-bool k wt wp truth e ∙ on-bool j v (valueOf wt wp) h
+
+  module _ (j vt vp wt wp : ℕ) (other : j ≡ 4 → ⊥) (below : j < 6) where
+    pub operate-no-left : (vt ≡ 2 → ⊥) → stuck k ≡ operate m l (operatorOf j) k (valueOf vt vp) (valueOf wt wp)
+    operate-no-left e = no-integer k vt vp _ e ∙ on-integers j (valueOf vt vp) (valueOf wt wp) other below
+
+    pub operate-no-right : vt ≡ 2 → (wt ≡ 2 → ⊥) → stuck k ≡ operate m l (operatorOf j) k (valueOf vt vp) (valueOf wt wp)
+    unfolding valueOf
+    operate-no-right e f = rw e (no-integer k wt wp (ofIntegers (operatorOf j) k (integerOf vp)) f ∙ on-integers j (Val.Integer (integerOf vp)) (valueOf wt wp) other below)
+
+    pub operate-integers : vt ≡ 2 → wt ≡ 2 → ofIntegers (operatorOf j) k (integerOf vp) (integerOf wp) ≡ operate m l (operatorOf j) k (valueOf vt vp) (valueOf wt wp)
+    unfolding valueOf
+    operate-integers e f = rw (e, f) (on-integers j (Val.Integer (integerOf vp)) (Val.Integer (integerOf wp)) other below)
+
+pub negated-bool : (k payload : ℕ) {tag : ℕ} → tag ≡ 1 → truth (not (eqb payload 1)) ≡ negated k (valueOf tag payload)
+unfolding valueOf negated
+negated-bool k payload e = rw e
+
+pub negated-other : (k tag payload : ℕ) → (tag ≡ 1 → ⊥) → stuck k ≡ negated k (valueOf tag payload)
+unfolding negated
+negated-other k tag payload e = no-bool k tag payload _ e
+
+-- ════ Leaves ════
+
+module _ (words : List ℕ) (s k : ℕ) where
+  pub slot-none : 16 ≤ s → stuck k ≡ present k (slotAt (take 32 words) s)
+  slot-none h = rw (slot-past (take 32 words) s (omega (arith, length-take 32 words)))
+
+  pub slot-short : s < 16 → length words ≤ 2 * s + 1 → stuck k ≡ present k (slotAt (take 32 words) s)
+  slot-short h g = rw (slot-among-first 16 words s h, slot-past words s g)
+
+  pub slot-there : s < 16 → 2 * s + 1 < length words → present k (valueOf (getD words (2 * s) 0) (getD words (2 * s + 1) 0)) ≡ present k (slotAt (take 32 words) s)
+  slot-there h g = rw (slot-among-first 16 words s h, slot-read words s g)
+
+pub present-unset : (k payload : ℕ) {tag : ℕ} → tag ≡ 0 → stuck k ≡ present k (valueOf tag payload)
+unfolding valueOf
+present-unset k payload e = rw e
+
+pub present-other : (k tag payload : ℕ) → 4 < tag → stuck k ≡ present k (valueOf tag payload)
+unfolding valueOf
+present-other k zero payload h = absurd (omega arith)
+present-other k (suc zero) payload h = absurd (omega arith)
+present-other k (suc (suc zero)) payload h = absurd (omega arith)
+present-other k (suc (suc (suc zero))) payload h = absurd (omega arith)
+present-other k (suc (suc (suc (suc zero)))) payload h = absurd (omega arith)
+present-other k (suc (suc (suc (suc (suc tag))))) payload h = refl
+
+pub present-set : (k tag payload : ℕ) → (tag ≡ 0 → ⊥) → tag < 5 → givenOf tag payload ≡ present k (valueOf tag payload)
+unfolding valueOf givenOf
+present-set k zero payload n h = absurd (n refl)
+present-set k (suc zero) payload n h = refl
+present-set k (suc (suc zero)) payload n h = refl
+present-set k (suc (suc (suc zero))) payload n h = refl
+present-set k (suc (suc (suc (suc zero)))) payload n h = refl
+present-set k (suc (suc (suc (suc (suc tag))))) payload n h = absurd (omega arith)
+
+module _ (slots : Slots) (k a b : ℕ) where
+  pub leaf-bool : {kind : ℕ} → kind ≡ 16 → truth (eqb a 1) ≡ leafOf slots kind k a b
+  unfolding leafOf
+  leaf-bool e = rw e
+
+  pub leaf-integer : {kind : ℕ} → kind ≡ 17 → givenOf 2 (a * 65536 + b) ≡ leafOf slots kind k a b
+  unfolding leafOf givenOf
+  leaf-integer e = rw e (rw (signed-is a b))
+
+  pub leaf-text : {kind : ℕ} → b < 65536 → kind ≡ 18 → givenOf 4 (a * 65536 + b) ≡ leafOf slots kind k a b
+  unfolding leafOf givenOf
+  leaf-text h e =
+      let d : (a * 65536 + b) / 65536 ≡ a = omega arith in
+      let r : (a * 65536 + b) % 65536 ≡ b = omega arith in
+      rw (e, d, r)
+
+  pub leaf-slot : {kind : ℕ} → kind ≡ 19 → present k (getD slots a Val.Absent) ≡ leafOf slots kind k a b
+  unfolding leafOf
+  leaf-slot e = rw e
+
+  pub leaf-other : (kind : ℕ) → (kind ≡ 16 → ⊥) → (kind ≡ 17 → ⊥) → (kind ≡ 18 → ⊥) → (kind ≡ 19 → ⊥) → truth false ≡ leafOf slots kind k a b
+  unfolding leafOf
+  leaf-other kind n16 n17 n18 n19 = rw (ne-eqb kind 16 n16, ne-eqb kind 17 n17, ne-eqb kind 18 n18, ne-eqb kind 19 n19)
+
+-- ════ Bools and numbers that code has made ════
+
+pub truth-is : (b : Bool) → givenOf 1 (boolByte b) ≡ truth b
+unfolding givenOf
+truth-is true = refl
+truth-is false = refl
+
+module _ (k : ℕ) where
+  pub number-is : (z : ℤ) → SFits w32 z → {n : Number} {p : ℕ} → n ≡ Is z → p ≡ wordOf z → givenOf 2 p ≡ numberAt k n
+  unfolding givenOf
+  number-is z f e q = rw (e, q, integer-word z f)
+
+  pub number-overflow : k < 65536 → {n : Number} {why : Fault} → n ≡ Not why → why ≡ Overflow → givenOf 6 k ≡ numberAt k n
+  unfolding givenOf
+  number-overflow h e f = let s : k % 65536 ≡ k = omega arith in rw (e, f, s)
+
+  pub number-zero-divisor : k < 65536 → {n : Number} {why : Fault} → n ≡ Not why → why ≡ ZeroDivisor → givenOf 7 k ≡ numberAt k n
+  unfolding givenOf
+  number-zero-divisor h e f = let s : k % 65536 ≡ k = omega arith in rw (e, f, s)
