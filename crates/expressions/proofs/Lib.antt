@@ -1,4 +1,5 @@
 pub mod Steps
 pub mod Givens
+pub mod Nodes
 pub mod Walking
-pub mod Visits
+pub mod Whole

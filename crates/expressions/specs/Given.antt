@@ -17,7 +17,7 @@ use Rattle.grammar.specs.Values.{Evaluated, value, ends, truth, present}
 use Rattle.grammar.specs.Words.{signed}
 use Rattle.values.specs.Slots.{textOf, valueOf}
 use Rattle.values.specs.Words.{integerOf}
-use Rattle.expressions.specs.declared.walks.Given.{Given}
+use Rattle.expressions.specs.declared.results.Given.{Given}
 
 -- what two words stand for, a line to a tag: a slot's five, and then why a run ends, at a node
 abbrev pub givens : ℕ → List (Evaluated Value)

@@ -1,21 +1,21 @@
--- A walk over an expression with what is pending on a stack of words: what it comes to, and what is left to do. Assumes nothing.
+-- The walk over an expression: what it has still to do, as what comes of it. Assumes nothing.
 use mathlib.Core.Path.{_≡_}
 use mathlib.Core.Bool.{Bool, true, false, cond}
 use mathlib.Core.List.{List}
-use Prim.Native.Nat.{ℕ, zero, suc, _+_, _*_, _-_, _/_, _%_, _<_, _≤_}
-use lib.Dec.{eqb, ltb}
-use lib.ListN.{getD, set, length, take}
+use Prim.Native.Nat.{ℕ, _+_, _*_, _-_, _/_, _%_, _<_, _≤_}
+use lib.Dec.{ltb, leb}
+use lib.ListN.{set, length, take}
+use Rattle.laws.specs.Pile.{Walking, Onward, comesTo, heavy, burden}
 use Rattle.grammar.specs.declared.Operator.{Operator}
 use Rattle.grammar.specs.declared.Value.{Value}
 use Rattle.grammar.specs.Answer.{settingOf}
 use Rattle.grammar.specs.Run.{Setting, Slots, eval}
-use Rattle.grammar.specs.Tree.{Expr, bool, integer, text, slot, binary, negation, exprOf, exprWith}
+use Rattle.grammar.specs.Tree.{exprWith}
 use Rattle.grammar.specs.Values.{Evaluated, after, lookLeft, operate, negated}
-use Rattle.table.specs.Fields.{nodeOfTwo}
 use Rattle.values.specs.Slots.{slotsOf, valueOf}
-use Rattle.expressions.specs.declared.walks.Given.{Given}
+use Rattle.expressions.specs.declared.results.Given.{Given}
 use Rattle.expressions.specs.declared.walks.Walk.{Walk}
-use Rattle.expressions.specs.Given.{givenOf, given, held, operatorOf}
+use Rattle.expressions.specs.Given.{givenOf, held, operatorOf}
 
 -- what doesn't change during a walk
 pub record Asked : Type 0 where
@@ -28,141 +28,120 @@ abbrev pub asked : (words literals message slots : List ℕ) (levels : ℕ) → 
 asked words literals message slots levels =
     record { setting = settingOf words literals message; slots = slotsOf (take 32 slots); words = words; levels = levels }
 
--- ════ Entries ════
+-- ════ Operators at work ════
 
--- what is pending of node k: its left operand is at work and node b is the right one; its right operand is, and the left has given a value; a not
-pub data Entry : Type 0 where
-  first : (k : ℕ) → Operator → (b : ℕ) → Entry
-  last : (k : ℕ) → Operator → Value → Entry
-  opposing : (k : ℕ) → Entry
+-- operator k at work: its left operand is due and node b is the right one; its right operand is, and the left gave a value; a not, whose operand is due
+pub data AtWork : Type 0 where
+  left : (k : ℕ) → Operator → (b : ℕ) → AtWork
+  right : (k : ℕ) → Operator → Value → AtWork
+  opposing : (k : ℕ) → AtWork
 
--- an entry's two words: 1048576 (the left value's tag + 1) + 65536 (operator) + node, and node b or the left value's payload. Operator 8 is not
-unfoldable pub entryOf : (head kept : ℕ) → Entry
-entryOf head kept =
-    cond (ltb 0 (head / 1048576))
-    (last (head % 65536) (operatorOf (head / 65536 % 16)) (valueOf (head / 1048576 - 1) kept))
-    (cond (ltb (head / 65536 % 16) 8) (first (head % 65536) (operatorOf (head / 65536 % 16)) (kept % 65536)) (opposing (head % 65536)))
+-- a number of the pile, in two halves. The upper: 1048576 (the left value's tag + 1) + 65536 (operator) + node, without the first part while the left operand is due; operator
+-- 8 is not. The lower: node b, or the left value's payload
+unfoldable pub atWork : (upper lower : ℕ) → AtWork
+atWork upper lower =
+    cond (ltb 0 (upper / 1048576 % 8))
+    (right (upper % 65536) (operatorOf (upper / 65536 % 16)) (valueOf (upper / 1048576 % 8 - 1) lower))
+    (cond (ltb (upper / 65536 % 16) 8) (left (upper % 65536) (operatorOf (upper / 65536 % 16)) (lower % 65536)) (opposing (upper % 65536)))
 
--- the steps of a walk over a tree
-unfoldable pub size : Expr → ℕ
-size (bool k b) = 1
-size (integer k z) = 1
-size (text k start length) = 1
-size (slot k s) = 1
-size (binary k op e f) = size e + size f + 3
-size (negation k e) = size e + 2
+abbrev pub numberOf : (upper lower : ℕ) → ℕ
+numberOf upper lower = upper * 4294967296 + lower
+
+abbrev pub workAt : ℕ → AtWork
+workAt f = atWork (f / 4294967296) (f % 4294967296)
 
 module _ (A : Asked) where
-  -- node k's expression under n entries, what it gives, and the steps it takes
-  abbrev pub part : (n k : ℕ) → Expr
-  part n k = exprWith (A .levels - n) (A .words) k
+  -- what node k gives under n operators at work: so many levels less are looked at
+  abbrev pub givesAt : (n k : ℕ) → Evaluated Value
+  givesAt n k = eval (A .setting) (A .slots) (exprWith (A .levels - n) (A .words) k)
 
+  -- what the whole walk from node k must give
   abbrev pub came : ℕ → Evaluated Value
   came k = eval (A .setting) (A .slots) (exprWith (A .levels) (A .words) k)
 
-  abbrev pub givesAt : (n k : ℕ) → Evaluated Value
-  givesAt n k = eval (A .setting) (A .slots) (part n k)
-
-  -- the operator has its left value v: 'And, or look at the left value first'
+  -- operator k has its left value v, and node b as right operand: 'And, or look at the left value first'
   abbrev pub withLeft : (n k : ℕ) → Operator → (b : ℕ) → Value → Evaluated Value
   withLeft n k op b v =
       lookLeft (A .setting .message) (A .setting .literals) op k v
       (after (givesAt n b) (λ w. operate (A .setting .message) (A .setting .literals) op k v w))
 
-  -- what entry i makes of the result it waits for, and what it has left to do
-  unfoldable pub resolved : ℕ → Entry → Evaluated Value → Evaluated Value
-  resolved i (first k op b) r = after r (withLeft (suc i) k op b)
-  resolved i (last k op v) r = after r (λ w. operate (A .setting .message) (A .setting .literals) op k v w)
+  -- what an operator at work, under i others, makes of the result it waits for
+  unfoldable pub resolved : ℕ → AtWork → Evaluated Value → Evaluated Value
+  resolved i (left k op b) r = after r (withLeft (i + 1) k op b)
+  resolved i (right k op v) r = after r (λ w. operate (A .setting .message) (A .setting .literals) op k v w)
   resolved i (opposing k) r = after r (negated k)
 
-  unfoldable pub owed : ℕ → Entry → ℕ
-  owed i (first k op b) = size (part (suc i) b) + 2
-  owed i (last k op v) = 1
-  owed i (opposing k) = 1
+  abbrev pub resolvedAt : (i f : ℕ) → Evaluated Value → Evaluated Value
+  resolvedAt i f r = resolved i (workAt f) r
 
-  -- what n entries make of a result, and have left to do
-  unfoldable pub unwound : List ℕ → ℕ → Evaluated Value → Evaluated Value
-  unwound stack zero r = r
-  unwound stack (suc i) r = unwound stack i (resolved i (entryOf (getD stack (2 * i) 0) (getD stack (2 * i + 1) 0)) r)
+  -- and its weight
+  unfoldable pub owed : ℕ → AtWork → ℕ
+  owed i (left k op b) = burden true (A .levels - (i + 1))
+  owed i (right k op v) = burden false 0
+  owed i (opposing k) = burden false 0
 
-  unfoldable pub owing : List ℕ → ℕ → ℕ
-  owing stack zero = 0
-  owing stack (suc i) = owing stack i + owed i (entryOf (getD stack (2 * i) 0) (getD stack (2 * i + 1) 0))
+  abbrev pub owedAt : (i f : ℕ) → ℕ
+  owedAt i f = owed i (workAt f)
 
-  -- what a walk comes to
-  unfoldable pub comes : Walk → List ℕ → Evaluated Value
-  comes w stack = unwound stack (w .pending) (cond (w .down) (givesAt (w .pending) (w .k)) (givenOf (w .tag) (w .payload)))
+  abbrev pub Anything : (i f : ℕ) → Type 0
+  Anything i f = Unit {0}
 
-  unfoldable pub left : Walk → List ℕ → ℕ
-  left w stack = owing stack (w .pending) + cond (w .down) (size (part (w .pending) (w .k))) 0
+  -- a walk of the code
+  unfoldable pub walking : List ℕ → Walk → Walking (Evaluated Value)
+  walking pile w = record {
+    pile = pile;
+    top = w .top;
+    result = cond (w .due) (givesAt (w .top) (w .at)) (givenOf (w .tag) (w .payload));
+    weight = cond (w .due) (heavy (A .levels - w .top)) 0;
+  }
 
-  -- ════ Steps ════
-
-  -- the walk w comes to x and has less left to do
-  pub record Goes (x : Evaluated Value) (more : ℕ) (w : Walk) (stack : List ℕ) : Type 0 where
-    pub same : comes w stack ≡ x
-    pub less : left w stack < more
-    pub room : 2 * w .pending ≤ length stack
-
-  -- the walk w has ended since the stack is too short for all levels
-  pub record Short (more : ℕ) (w : Walk) (stack : List ℕ) : Type 0 where
-    pub up : w .down ≡ false
-    pub none : w .pending ≡ 0
-    pub told : w .tag ≡ 8
-    pub less : left w stack < more
-    pub short : length stack < 2 * A .levels
-
-  pub data Fares (x : Evaluated Value) (more : ℕ) (w : Walk) (stack : List ℕ) : Type 0 where
-    goes : Goes x more w stack → Fares x more w stack
-    ends : Short more w stack → Fares x more w stack
-
-  -- what a whole walk gives
-  pub data Walked (k room : ℕ) (r : Given) : Type 0 where
-    right : given r ≡ came k → Walked k room r
-    short : r .tag ≡ 8 → room < 2 * A .levels → Walked k room r
+  -- a step
+  abbrev pub Steps : (w : Walking (Evaluated Value)) (later : List ℕ) (v : Walk) → Type 0
+  Steps w later v = Onward resolvedAt owedAt Anything w (walking later v)
 
 -- ════ Walks ════
 
-abbrev pub upWith : ℕ → Given → Walk
-upWith pending g = record { down = false; k = 0; pending = pending; tag = g .tag; payload = g .payload }
+abbrev pub dueAt : (top k : ℕ) → Walk
+dueAt top k = record { due = true; at = k; top = top; tag = 0; payload = 0 }
 
-abbrev pub downWith : ℕ → ℕ → Walk
-downWith pending k = record { down = true; k = k; pending = pending; tag = 0; payload = 0 }
+abbrev pub foundAt : (top : ℕ) → Given → Walk
+foundAt top g = record { due = false; at = 0; top = top; tag = g .tag; payload = g .payload }
 
-abbrev pub goesOn : Walk → Bool
-goesOn w = cond (w .down) true (ltb 0 (w .pending))
+-- a walk goes on while a node is due, unless there is no room above the pile for it to go to work; and while a value is found and an operator waits for it
+unfoldable pub goesOn : (levels room : ℕ) → Walk → Bool
+goesOn levels room w =
+    cond (w .due) (cond (leb levels (w .top)) true (ltb (w .top) room)) (cond (leb 5 (w .tag)) false (ltb 0 (w .top)))
 
--- ════ What the parts of a step do ════
+-- ════ What code promises ════
 
-pub record Pushed (stack stack′ : List ℕ) (n head kept k : ℕ) (r : Walk) : Type 0 where
-  pub walk : r ≡ downWith (n + 1) k
-  pub stack-is : stack′ ≡ set (set stack (2 * n) head) (2 * n + 1) kept
+-- a number on top of n, and node k is due
+pub record Opened (pile : List ℕ) (n upper lower k : ℕ) (later : List ℕ) (v : Walk) : Type 0 where
+  pub walk : v ≡ dueAt (n + 1) k
+  pub pile-is : later ≡ set pile n (numberOf upper lower)
 
-module _ (stack : List ℕ) (r : Walk) (stack′ : List ℕ) where
-  -- for the expression of the node that code sees
-  abbrev pub Arrived : (slots : List ℕ) (n k kind a b : ℕ) → Type 0
-  Arrived slots n k kind a b =
-      (words literals message : List ℕ) (levels : ℕ) → n < levels →
-      Fares (asked words literals message slots levels)
-      (unwound (asked words literals message slots levels) stack n (eval (settingOf words literals message) (slotsOf (take 32 slots)) (exprOf (exprWith (levels - suc n) words) k (nodeOfTwo kind a b))))
-      (owing (asked words literals message slots levels) stack n + size (exprOf (exprWith (levels - suc n) words) k (nodeOfTwo kind a b)))
-      r stack′
+module _ (pile later : List ℕ) (v : Walk) where
+  -- of a node that is due, whatever the literals and the message
+  abbrev pub Entered : (words slots : List ℕ) (levels : ℕ) (w : Walk) → Type 0
+  Entered words slots levels w =
+      (literals message : List ℕ) → Steps (asked words literals message slots levels) (walking (asked words literals message slots levels) pile w) later v
 
-  abbrev pub Descended : (words slots : List ℕ) (levels n k : ℕ) → Type 0
-  Descended words slots levels n k =
-      (literals message : List ℕ) →
-      Fares (asked words literals message slots levels)
-      (unwound (asked words literals message slots levels) stack n (givesAt (asked words literals message slots levels) n k))
-      (owing (asked words literals message slots levels) stack n + size (part (asked words literals message slots levels) n k))
-      r stack′
+  -- of operator j, node k, which has its left value
+  abbrev pub Turned : (n j k b : ℕ) → Given → Type 0
+  Turned n j k b g =
+      (A : Asked) → Steps A (record {
+        pile = pile;
+        top = n;
+        result = withLeft A (n + 1) k (operatorOf j) b (held g);
+        weight = burden true (A .levels - (n + 1));
+      }) later v
 
-  abbrev pub Turned : (n j k b : ℕ) (v : Given) → Type 0
-  Turned n j k b v =
-      (A : Asked) →
-      Goes A (unwound A stack n (withLeft A (suc n) k (operatorOf j) b (held v))) (owing A stack n + size (part A (suc n) b) + 2) r stack′
+  -- of a result that was found, whatever the table and the slots
+  abbrev pub Resumed : (literals message : List ℕ) (w : Walk) → Type 0
+  Resumed literals message w =
+      (words slots : List ℕ) (levels : ℕ) → Steps (asked words literals message slots levels) (walking (asked words literals message slots levels) pile w) later v
 
-  abbrev pub Ascended : (literals message : List ℕ) (p : ℕ) (g : Given) → Type 0
-  Ascended literals message p g =
-      (words slots : List ℕ) (levels : ℕ) →
-      Goes (asked words literals message slots levels) (unwound (asked words literals message slots levels) stack p (given g))
-      (owing (asked words literals message slots levels) stack p) r stack′
+-- of as many steps as there is room for
+pub record WalkedOn (A : Asked) (pile : List ℕ) (w : Walk) (later : List ℕ) (v : Walk) : Type 0 where
+  pub same : comesTo (resolvedAt A) (walking A later v) ≡ comesTo (resolvedAt A) (walking A pile w)
+  pub room : v .top ≤ length later
+  pub rests : goesOn (A .levels) (length pile) v ≡ false

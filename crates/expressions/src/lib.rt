@@ -8,6 +8,7 @@ ghost use Rattle.grammar.specs.Tree.{exprAt, levelsOf};
 ghost use Rattle.values.specs.Slots.{slotsOf};
 ghost use Rattle.expressions.specs.Meant.{meant};
 
+mod results;
 mod walks;
 
 use grammar::Ending;
@@ -20,15 +21,15 @@ pub enum Evaluated {
 }
 
 // The levels of node k that are looked at.
-fn levels_of(k: u16) -> u32
+fn levels_of(k: u16) -> u16
     ensures { λ r. ⌜ (r ≡ levelsOf k) × (0 < r) × (r ≤ 1024) ⌝ }
 {
-    if k < 1024 { k as u32 + 1 } else { 1024 }
+    if k < 1024 { k + 1 } else { 1024 }
 }
 
 // What expression node k gives, with the slots in the first 32 words of `slots`: for a table of sound form as document 01 says. A part has a
 // smaller number than its node, so node k has at most k + 1 levels, and a table has at most 1,024 nodes. For any other table it answers what the
-// words stand for (`exprAt` of the grammar) and ends too. No recursion: docs say what stack it uses.
+// words stand for (`exprAt` of the grammar) and ends too.
 pub fn evaluate<'a>(
     words: &[u16],
     literals: &'a [u8],
@@ -38,5 +39,5 @@ pub fn evaluate<'a>(
 ) -> Evaluated
     ensures { λ r. ⌜ meant r ≡ eval (settingOf (now (words .entry)) (now (literals .entry)) (now (message .entry))) (slotsOf (take 32 (now (slots .entry)))) (exprAt (now (words .entry)) k) ⌝ }
 {
-    walks::evaluated(walks::walked(words, literals, message, slots, levels_of(k), k))
+    results::evaluated(walks::walked(words, literals, message, slots, levels_of(k), k))
 }

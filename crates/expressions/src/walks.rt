@@ -1,349 +1,153 @@
-// Expressions without recursion: what is pending stands in a lent stack, two words an entry.
+// A walk over an expression without recursion: the operators at work stand in a pile of numbers.
 ghost use mathlib.Core.Path.{_≡_};
-ghost use mathlib.Core.Bool.{true};
-ghost use Prim.Native.Nat.{_+_, _*_, _<_, _≤_};
-ghost use lib.ListN.{length, take};
-ghost use Rattle.grammar.specs.Values.{numberAt, present, equal, operate, negated};
-ghost use Rattle.grammar.specs.Values as written;
+ghost use mathlib.Core.Bool.{true, false};
+ghost use Prim.Native.Nat.{_<_, _≤_};
+ghost use lib.ListN.{length};
+ghost use Rattle.laws.specs.Pile.{Alike, comesTo};
 ghost use Rattle.grammar.specs.Words.{ruleCount};
-ghost use Rattle.values.specs.Slots.{slotsOf, slotAt};
-ghost use Rattle.expressions.specs.Meant.{meant, ofIntegers};
-ghost use Rattle.expressions.specs.Given.{given, held, operatorOf, leafOf, isText, spanIn};
-ghost use Rattle.expressions.specs.Walks.{asked, comes, left, Fares, upWith, goesOn, Pushed, Arrived, Descended, Turned, Ascended, Walked, came};
-use crate::Evaluated;
-use grammar::Arithmetic;
-use grammar::Ending;
-use grammar::Fault;
-use grammar::Number;
-use grammar::Span;
+ghost use Rattle.expressions.specs.Given.{given};
+ghost use Rattle.expressions.specs.Walks.{asked, came, resolvedAt, walking, Steps, dueAt, foundAt, goesOn, Opened, Entered, Turned, Resumed, WalkedOn};
+use crate::results::Given;
+use crate::results::leaf;
+use crate::results::negate_given;
+use crate::results::operate_given;
+use crate::results::stuck;
+use crate::results::truth;
 use table::records::node_start;
 use table::records::rule_count;
 use table::records::word_at;
-use values::slots::value_of;
-use values::words::integer_of;
-use values::words::word_of;
 
-// A result in two words: a value's tag and payload as in a slot; or, from tag 5 on, why the run ends, and the node.
-pub struct Given {
-    pub tag: u32,
-    pub payload: u32,
-}
-
-// Where a walk is: on its way down at node k, or on its way up with a result; and how many entries are pending.
+// A walk over an expression: whether a node is due, that node, how many operators are at work, and else the result that was found.
 pub struct Walk {
-    pub down: bool,
-    pub k: u16,
-    pub pending: u32,
+    pub due: bool,
+    pub at: u16,
+    pub top: u16,
     pub tag: u32,
     pub payload: u32,
 }
 
-fn truth(b: bool) -> Given
-    ensures { λ r. ⌜ given r ≡ written.truth b ⌝ }
-{
-    Given {
-        tag: 1,
-        payload: b as u32,
-    }
-}
-
-fn stuck(k: u16) -> Given
-    ensures { λ r. ⌜ given r ≡ written.stuck k ⌝ }
-{
-    Given {
-        tag: 5,
-        payload: k as u32,
-    }
-}
-
-// "an unset slot is read (the slot node)": STUCK there. "A rule has 16 attribute slots": the first 32 words.
-fn slot_given(slots: &[u32], s: u16, k: u16) -> Given
-    ensures { λ r. ⌜ given r ≡ present k (slotAt (take 32 (now (slots .entry))) s) ⌝ }
-{
-    if 16 <= s {
-        return stuck(k);
-    }
-    let at = 2 * s as usize;
-    if slots.len() <= at + 1 {
-        return stuck(k);
-    }
-    let tag = slots[at];
-    if tag == 0 {
-        return stuck(k);
-    }
-    if 4 < tag {
-        return stuck(k);
-    }
-    Given {
-        tag: tag,
-        payload: slots[at + 1],
-    }
-}
-
-// A node below 20, from its kind and its fields a and b; what is no expression counts as false.
-fn leaf(slots: &[u32], kind: u16, k: u16, a: u16, b: u16) -> Given
-    ensures { λ r. ⌜ given r ≡ leafOf (slotsOf (take 32 (now (slots .entry)))) kind k a b ⌝ }
-{
-    match kind {
-        16 => truth(a == 1),
-        17 => Given {
-            tag: 2,
-            payload: a as u32 * 65536 + b as u32,
-        },
-        18 => Given {
-            tag: 4,
-            payload: a as u32 * 65536 + b as u32,
-        },
-        19 => slot_given(slots, a, k),
-        _ => truth(false),
-    }
-}
-
-fn number_given(n: Number, k: u16) -> Given
-    ensures { λ r. ⌜ given r ≡ numberAt k n ⌝ }
-{
-    match n {
-        Number::Is(z) => Given {
-            tag: 2,
-            payload: word_of(z),
-        },
-        Number::Not(why) => match why {
-            Fault::Overflow => Given {
-                tag: 6,
-                payload: k as u32,
-            },
-            Fault::ZeroDivisor => Given {
-                tag: 7,
-                payload: k as u32,
-            },
-        },
-    }
-}
-
-// Operator j, of node k, at two Integers.
-fn integers_given(j: u32, k: u16, a: i32, b: i32) -> Given
-    ensures { λ r. ⌜ given r ≡ ofIntegers (operatorOf j) k a b ⌝ }
-{
-    match j {
-        0 => number_given(values::numbers::calculate(Arithmetic::Add, a, b), k),
-        1 => number_given(values::numbers::calculate(Arithmetic::Subtract, a, b), k),
-        2 => number_given(values::numbers::calculate(Arithmetic::Multiply, a, b), k),
-        3 => number_given(values::numbers::calculate(Arithmetic::Divide, a, b), k),
-        5 => truth(values::numbers::greater(a, b)),
-        _ => stuck(k),
-    }
-}
-
-fn is_text(g: Given) -> bool
-    ensures { λ r. ⌜ r ≡ isText g ⌝ }
-{
-    if g.tag < 3 { false } else { g.tag < 5 }
-}
-
-// The part that a Text is.
-fn span_in(g: Given) -> Span
-    ensures { λ r. ⌜ r ≡ spanIn g ⌝ }
-{
-    Span {
-        literal: g.tag == 4,
-        start: (g.payload / 65536) as u16,
-        length: (g.payload % 65536) as u16,
-    }
-}
-
-// "equal gets two types": STUCK at the operator.
-fn equal_given<'a>(message: &'a [u8], literals: &'a [u8], k: u16, v: Given, w: Given) -> Given
-    ensures { λ r. ⌜ given r ≡ equal (now (message .entry)) (now (literals .entry)) k (held v) (held w) ⌝ }
-{
-    if v.tag == 2 {
-        if w.tag == 2 {
-            return truth(values::numbers::same_integer(
-                integer_of(v.payload),
-                integer_of(w.payload),
-            ));
-        }
-        return stuck(k);
-    }
-    if v.tag == 1 {
-        if w.tag == 1 {
-            return truth((v.payload == 1) == (w.payload == 1));
-        }
-        return stuck(k);
-    }
-    if is_text(v) {
-        if is_text(w) {
-            return truth(values::texts::same_texts(message, literals, span_in(v), span_in(w)));
-        }
-        return stuck(k);
-    }
-    stuck(k)
-}
-
-// Operator j, of node k: "types are looked at after the operands".
-fn operate_given<'a>(
-    message: &'a [u8],
-    literals: &'a [u8],
-    j: u32,
-    k: u16,
-    v: Given,
-    w: Given,
-) -> Given
-    ensures { λ r. ⌜ given r ≡ operate (now (message .entry)) (now (literals .entry)) (operatorOf j) k (held v) (held w) ⌝ }
-{
-    if j == 4 {
-        return equal_given(message, literals, k, v, w);
-    }
-    if 6 <= j {
-        return if w.tag == 1 { w } else { stuck(k) };
-    }
-    if v.tag != 2 {
-        return stuck(k);
-    }
-    if w.tag != 2 {
-        return stuck(k);
-    }
-    integers_given(j, k, integer_of(v.payload), integer_of(w.payload))
-}
-
-fn negate_given(k: u16, v: Given) -> Given
-    ensures { λ r. ⌜ given r ≡ negated k (held v) ⌝ }
-{
-    if v.tag == 1 {
-        truth(v.payload != 1)
-    } else {
-        stuck(k)
-    }
-}
-
-// On the way up with a result, under so many entries.
-fn up(pending: u32, g: Given) -> Walk
-    ensures { λ r. ⌜ r ≡ upWith pending g ⌝ }
+fn due(top: u16, k: u16) -> Walk
+    ensures { λ r. ⌜ r ≡ dueAt top k ⌝ }
 {
     Walk {
-        down: false,
-        k: 0,
-        pending: pending,
-        tag: g.tag,
-        payload: g.payload,
-    }
-}
-
-// An entry: what is pending, as it stands in the stack, and then on the way down at node k.
-fn push(stack: &mut [u32], n: u32, head: u32, kept: u32, k: u16) -> Walk
-    requires { ⌜ (n < 4294967295) × (2 * n + 1 < length (now stack)) ⌝ }
-    ensures { λ r. ⌜ Pushed (now (stack .entry)) (now (stack .exit)) n head kept k r ⌝ }
-{
-    let at = 2 * n as usize;
-    stack[at] = head;
-    stack[at + 1] = kept;
-    Walk {
-        down: true,
-        k: k,
-        pending: n + 1,
+        due: true,
+        at: k,
+        top: top,
         tag: 0,
         payload: 0,
     }
 }
 
-// The visit of node k, of this kind and with these fields a and b, under n entries.
-fn arrive(slots: &[u32], n: u32, k: u16, kind: u16, a: u16, b: u16, stack: &mut [u32]) -> Walk
-    requires { ⌜ (n < 4294967295) × (2 * n ≤ length (now stack)) ⌝ }
-    ensures { λ r. ⌜ Arrived (now (stack .entry)) r (now (stack .exit)) (now (slots .entry)) n k kind a b ⌝ }
+fn found(top: u16, g: Given) -> Walk
+    ensures { λ r. ⌜ r ≡ foundAt top g ⌝ }
 {
-    if kind < 20 {
-        return up(n, leaf(slots, kind, k, a, b));
+    Walk {
+        due: false,
+        at: 0,
+        top: top,
+        tag: g.tag,
+        payload: g.payload,
     }
-    if 28 < kind {
-        return up(n, truth(false));
-    }
-    if stack.len() <= 2 * n as usize + 1 {
-        return up(0, Given { tag: 8, payload: 0 });
-    }
-    push(stack, n, (kind as u32 - 20) * 65536 + k as u32, b as u32, a)
 }
 
-// Node k, under n entries; `levels` levels of nodes are looked at, and what lies deeper counts as false.
-fn descend(
-    words: &[u16],
-    slots: &[u32],
-    rules: u16,
-    levels: u32,
-    n: u32,
-    k: u16,
-    stack: &mut [u32],
-) -> Walk
-    requires { ⌜ (rules ≡ ruleCount (now words)) × (2 * n ≤ length (now stack)) ⌝ }
-    ensures { λ r. ⌜ Descended (now (stack .entry)) r (now (stack .exit)) (now (words .entry)) (now (slots .entry)) levels n k ⌝ }
+// An operator goes to work, on top of n others, as one number of two halves; and its operand, node k, is due.
+fn put_to_work(n: u16, upper: u32, lower: u32, k: u16, pile: &mut [u64]) -> Walk
+    requires { ⌜ (n < 65535) × (n < length (now pile)) ⌝ }
+    ensures { λ r. ⌜ Opened (now (pile .entry)) n upper lower k (now (pile .exit)) r ⌝ }
 {
-    if levels <= n {
-        return up(n, truth(false));
+    pile[n as usize] = upper as u64 * 4294967296 + lower as u64;
+    due(n + 1, k)
+}
+
+// A node is due: `levels` levels of nodes are looked at, and what lies deeper counts as false.
+fn enter(words: &[u16], slots: &[u32], rules: u16, levels: u16, w: Walk, pile: &mut [u64]) -> Walk
+    requires { ⌜ (rules ≡ ruleCount (now words)) × (w .due ≡ true) × (w .top ≤ length (now pile)) × (w .top < levels → w .top < length (now pile)) ⌝ }
+    ensures { λ r. ⌜ Entered (now (pile .entry)) (now (pile .exit)) r (now (words .entry)) (now (slots .entry)) levels w ⌝ }
+{
+    let k = w.at;
+    let top = w.top;
+    if levels <= top {
+        return found(top, truth(false));
     }
     let start = node_start(rules, k);
     let kind = word_at(words, start);
     let a = word_at(words, start + 1);
     let b = word_at(words, start + 2);
-    arrive(slots, n, k, kind, a, b, stack)
+    if kind < 20 {
+        return found(top, leaf(slots, kind, k, a, b));
+    }
+    if 28 < kind {
+        return found(top, truth(false));
+    }
+    put_to_work(
+        top,
+        (kind as u32 - 20) * 65536 + k as u32,
+        b as u32,
+        a,
+        pile,
+    )
 }
 
 // "And, or look at the left value first": operator j, of node k, has its left value, and node b is its right operand.
-fn turn(n: u32, j: u32, k: u16, b: u16, v: Given, stack: &mut [u32]) -> Walk
-    requires { ⌜ (v .tag < 5) × (j < 8) × (n < 4294967295) × (2 * n + 1 < length (now stack)) ⌝ }
-    ensures { λ r. ⌜ Turned (now (stack .entry)) r (now (stack .exit)) n j k b v ⌝ }
+fn turn(n: u16, j: u32, k: u16, b: u16, v: Given, pile: &mut [u64]) -> Walk
+    requires { ⌜ (v .tag < 5) × (j < 8) × (n < 65535) × (n < length (now pile)) ⌝ }
+    ensures { λ r. ⌜ Turned (now (pile .entry)) (now (pile .exit)) r n j k b v ⌝ }
 {
-    let head = (v.tag + 1) * 1048576 + j * 65536 + k as u32;
+    let upper = (v.tag + 1) * 1048576 + j * 65536 + k as u32;
     if j < 6 {
-        return push(stack, n, head, v.payload, b);
+        return put_to_work(n, upper, v.payload, b, pile);
     }
     if v.tag != 1 {
-        return up(n, stuck(k));
+        return found(n, stuck(k));
     }
     if (v.payload == 1) == (j == 7) {
-        return up(n, v);
+        return found(n, v);
     }
-    push(stack, n, head, v.payload, b)
+    put_to_work(n, upper, v.payload, b, pile)
 }
 
-// A result, for the topmost of p entries.
-fn ascend<'a>(literals: &'a [u8], message: &'a [u8], p: u32, g: Given, stack: &mut [u32]) -> Walk
-    requires { ⌜ (0 < p) × (2 * p ≤ length (now stack)) ⌝ }
-    ensures { λ r. ⌜ Ascended (now (stack .entry)) r (now (stack .exit)) (now (literals .entry)) (now (message .entry)) p g ⌝ }
+// A value was found, and goes to the operator on top.
+fn resume<'a>(literals: &'a [u8], message: &'a [u8], w: Walk, pile: &mut [u64]) -> Walk
+    requires { ⌜ (w .due ≡ false) × (w .tag < 5) × (0 < w .top) × (w .top ≤ length (now pile)) ⌝ }
+    ensures { λ r. ⌜ Resumed (now (pile .entry)) (now (pile .exit)) r (now (literals .entry)) (now (message .entry)) w ⌝ }
 {
-    let n = p - 1;
-    if 5 <= g.tag {
-        return up(n, g);
-    }
-    let at = 2 * n as usize;
-    let head = stack[at];
-    let kept = stack[at + 1];
-    let k = (head % 65536) as u16;
-    let j = head / 65536 % 16;
-    let t = head / 1048576;
+    let n = w.top - 1;
+    let g = Given {
+        tag: w.tag,
+        payload: w.payload,
+    };
+    let f = pile[n as usize];
+    let upper = f / 4294967296;
+    let lower = (f % 4294967296) as u32;
+    let k = (upper % 65536) as u16;
+    let j = (upper / 65536 % 16) as u32;
+    let t = (upper / 1048576 % 8) as u32;
     if 0 < t {
-        return up(
-            n,
-            operate_given(
-                message,
-                literals,
-                j,
-                k,
-                Given {
-                    tag: t - 1,
-                    payload: kept,
-                },
-                g,
-            ),
-        );
+        let v = Given {
+            tag: t - 1,
+            payload: lower,
+        };
+        return found(n, operate_given(message, literals, j, k, v, g));
     }
     if j < 8 {
-        return turn(n, j, k, (kept % 65536) as u16, g, stack);
+        return turn(n, j, k, (lower % 65536) as u16, g, pile);
     }
-    up(n, negate_given(k, g))
+    found(n, negate_given(k, g))
 }
 
-fn goes_on(w: Walk) -> bool
-    ensures { λ r. ⌜ r ≡ goesOn w ⌝ }
+fn goes_on(w: Walk, levels: u16, room: usize) -> bool
+    ensures { λ r. ⌜ r ≡ goesOn levels room w ⌝ }
 {
-    if w.down { true } else { 0 < w.pending }
+    if w.due {
+        if levels <= w.top {
+            return true;
+        }
+        return (w.top as usize) < room;
+    }
+    if 5 <= w.tag {
+        return false;
+    }
+    0 < w.top
 }
 
 fn step<'a>(
@@ -352,93 +156,79 @@ fn step<'a>(
     message: &'a [u8],
     slots: &[u32],
     rules: u16,
-    levels: u32,
+    levels: u16,
     w: Walk,
-    stack: &mut [u32],
+    pile: &mut [u64],
 ) -> Walk
-    requires { ⌜ (rules ≡ ruleCount (now words)) × (goesOn w ≡ true) × (2 * w .pending ≤ length (now stack)) ⌝ }
-    ensures { λ r. ⌜ Fares (asked (now (words .entry)) (now (literals .entry)) (now (message .entry)) (now (slots .entry)) levels) (comes (asked (now (words .entry)) (now (literals .entry)) (now (message .entry)) (now (slots .entry)) levels) w (now (stack .entry))) (left (asked (now (words .entry)) (now (literals .entry)) (now (message .entry)) (now (slots .entry)) levels) w (now (stack .entry))) r (now (stack .exit)) ⌝ }
+    requires { ⌜ (rules ≡ ruleCount (now words)) × (goesOn levels (length (now pile)) w ≡ true) × (w .top ≤ length (now pile)) ⌝ }
+    ensures { λ r. ⌜ Steps (asked (now (words .entry)) (now (literals .entry)) (now (message .entry)) (now (slots .entry)) levels) (walking (asked (now (words .entry)) (now (literals .entry)) (now (message .entry)) (now (slots .entry)) levels) (now (pile .entry)) w) (now (pile .exit)) r ⌝ }
 {
-    if w.down {
-        return descend(words, slots, rules, levels, w.pending, w.k, stack);
+    if w.due {
+        return enter(words, slots, rules, levels, w, pile);
     }
-    ascend(
-        literals,
-        message,
-        w.pending,
-        Given {
-            tag: w.tag,
-            payload: w.payload,
-        },
-        stack,
-    )
+    resume(literals, message, w, pile)
 }
 
-// Node k's expression, of which `levels` levels of nodes are looked at: tag 8 where the stack is too short.
+// Goes on until the expression has its result, or the pile has no room for a node that is due.
 fn walk_on<'a>(
     words: &[u16],
     literals: &'a [u8],
     message: &'a [u8],
     slots: &[u32],
-    levels: u32,
-    k: u16,
-    stack: &mut [u32],
-) -> Given
-    ensures { λ r. ⌜ Walked (asked (now (words .entry)) (now (literals .entry)) (now (message .entry)) (now (slots .entry)) levels) k (length (now (stack .entry))) r ⌝ }
+    levels: u16,
+    from: Walk,
+    pile: &mut [u64],
+) -> Walk
+    requires { ⌜ from .top ≤ length (now pile) ⌝ }
+    ensures { λ r. ⌜ WalkedOn (asked (now (words .entry)) (now (literals .entry)) (now (message .entry)) (now (slots .entry)) levels) (now (pile .entry)) from (now (pile .exit)) r ⌝ }
 {
     let rules = rule_count(words);
-    let mut w = Walk {
-        down: true,
-        k: k,
-        pending: 0,
-        tag: 0,
-        payload: 0,
-    };
-    while goes_on(w) {
-        w = step(words, literals, message, slots, rules, levels, w, stack);
+    let mut w = from;
+    while goes_on(w, levels, pile.len()) {
+        w = step(words, literals, message, slots, rules, levels, w, pile);
     }
+    w
+}
+
+// A pile is put into a longer one.
+fn copied(pile: &[u64], longer: &mut [u64])
+    requires { ⌜ length (now pile) ≤ length (now longer) ⌝ }
+    ensures { λ _. ⌜ Alike (length (now (pile .entry))) (now (pile .entry)) (now (longer .exit)) ⌝ }
+{
+    for i in 0..pile.len() {
+        longer[i] = pile[i];
+    }
+}
+
+// On with 1,024 places: as many as there are levels.
+fn walk_deeper<'a>(
+    words: &[u16],
+    literals: &'a [u8],
+    message: &'a [u8],
+    slots: &[u32],
+    levels: u16,
+    w: Walk,
+    pile: &[u64],
+) -> Given
+    requires { ⌜ (levels ≤ 1024) × (w .top ≤ length (now pile)) × (length (now pile) ≤ 1024) ⌝ }
+    ensures { λ r. ⌜ given r ≡ comesTo (resolvedAt (asked (now (words .entry)) (now (literals .entry)) (now (message .entry)) (now (slots .entry)) levels)) (walking (asked (now (words .entry)) (now (literals .entry)) (now (message .entry)) (now (slots .entry)) levels) (now (pile .entry)) w) ⌝ }
+{
+    let mut longer = [0u64; 1024];
+    copied(pile, &mut longer);
+    let v = walk_on(words, literals, message, slots, levels, w, &mut longer);
     Given {
-        tag: w.tag,
-        payload: w.payload,
+        tag: v.tag,
+        payload: v.payload,
     }
 }
 
-fn small<'a>(
+// A leaf wants no pile. Sixteen places are enough for most expressions, and quickly cleared.
+pub(crate) fn walked<'a>(
     words: &[u16],
     literals: &'a [u8],
     message: &'a [u8],
     slots: &[u32],
-    levels: u32,
-    k: u16,
-) -> Given
-    ensures { λ r. ⌜ Walked (asked (now (words .entry)) (now (literals .entry)) (now (message .entry)) (now (slots .entry)) levels) k 32 r ⌝ }
-{
-    let mut stack = [0u32; 32];
-    walk_on(words, literals, message, slots, levels, k, &mut stack)
-}
-
-fn large<'a>(
-    words: &[u16],
-    literals: &'a [u8],
-    message: &'a [u8],
-    slots: &[u32],
-    levels: u32,
-    k: u16,
-) -> Given
-    ensures { λ r. ⌜ Walked (asked (now (words .entry)) (now (literals .entry)) (now (message .entry)) (now (slots .entry)) levels) k 2048 r ⌝ }
-{
-    let mut stack = [0u32; 2048];
-    walk_on(words, literals, message, slots, levels, k, &mut stack)
-}
-
-// A leaf wants no stack. A short one is enough for most expressions, and is quickly cleared; else the walk begins again with one that is
-// enough for 1,024 levels.
-pub fn walked<'a>(
-    words: &[u16],
-    literals: &'a [u8],
-    message: &'a [u8],
-    slots: &[u32],
-    levels: u32,
+    levels: u16,
     k: u16,
 ) -> Given
     requires { ⌜ (0 < levels) × (levels ≤ 1024) ⌝ }
@@ -447,33 +237,18 @@ pub fn walked<'a>(
     let start = node_start(rule_count(words), k);
     let kind = word_at(words, start);
     if kind < 20 {
-        return leaf(
-            slots,
-            kind,
-            k,
-            word_at(words, start + 1),
-            word_at(words, start + 2),
-        );
+        let a = word_at(words, start + 1);
+        let b = word_at(words, start + 2);
+        return leaf(slots, kind, k, a, b);
     }
-    let r = small(words, literals, message, slots, levels, k);
-    if r.tag == 8 {
-        return large(words, literals, message, slots, levels, k);
+    let mut pile = [0u64; 16];
+    let first = due(0, k);
+    let w = walk_on(words, literals, message, slots, levels, first, &mut pile);
+    if w.due {
+        return walk_deeper(words, literals, message, slots, levels, w, &pile);
     }
-    r
-}
-
-// A result as a value, or as an end.
-pub fn evaluated(g: Given) -> Evaluated
-    ensures { λ r. ⌜ meant r ≡ given g ⌝ }
-{
-    let tag = g.tag;
-    if tag < 5 {
-        return Evaluated::Is(value_of(tag, g.payload));
-    }
-    let k = (g.payload % 65536) as u16;
-    match tag {
-        6 => Evaluated::Ends(Ending::Fault(Fault::Overflow), k),
-        7 => Evaluated::Ends(Ending::Fault(Fault::ZeroDivisor), k),
-        _ => Evaluated::Ends(Ending::Stuck, k),
+    Given {
+        tag: w.tag,
+        payload: w.payload,
     }
 }

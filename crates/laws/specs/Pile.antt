@@ -141,6 +141,19 @@ module _ {A : Type 0} {f : ℕ → ℕ → A → A} {g : ℕ → ℕ → ℕ} {P
 
   -- a result was found, and goes to the topmost number
   module _ (some : 0 < w .top) where
+    -- a step of the walk that the topmost number makes of it
+    pub lowered : {v : Walking A} {a : A} {m : ℕ} → a ≡ f (under w) (topmost w) (w .result) → m ≡ w .weight + g (under w) (topmost w)
+        → Onward f g P (record { pile = w .pile; top = under w; result = a; weight = m }) v → Onward f g P w v
+    unfolding comesTo weighs
+    lowered {m = m} same weight on =
+        let less = on .less in
+        record {
+          long = on .long;
+          piled = on .piled;
+          same = on .same ∙ ap (through f (w .pile) (under w)) same ∙ sym (through-topmost w some f);
+          less = rw (total-topmost w some g) (omega arith);
+        }
+
     -- the topmost number goes, and its result is found, or a part of it is due
     pub closed : {m : ℕ} {a : A} → a ≡ f (under w) (topmost w) (w .result) → m < w .weight + g (under w) (topmost w)
         → Onward f g P w (record { pile = w .pile; top = under w; result = a; weight = m })

@@ -1,8 +1,8 @@
 use Rattle.expressions.proofs.Givens.{negated-bool, negated-other}
 use mathlib.Core.Path.{_∙_}
 use borrow.Author.Needs.{needs}
-use Rattle.expressions.proofs.walks.negate_given.Statement.{statement}
-use Rattle.expressions.proofs.walks.negate_given.Tie as tie
+use Rattle.expressions.proofs.results.negate_given.Statement.{statement}
+use Rattle.expressions.proofs.results.negate_given.Tie as tie
 
 truth-requires : tie.Need-truth-requires
 truth-requires c κs = search needs

@@ -2,8 +2,8 @@ use Rattle.expressions.proofs.Givens.{slot-none, slot-short, slot-there
 use native.Mathlib.Omega.{arith}
 use mathlib.Core.Path.{_∙_}
 use borrow.Author.Needs.{needs}
-use Rattle.expressions.proofs.walks.slot_given.Statement.{statement}
-use Rattle.expressions.proofs.walks.slot_given.Tie as tie
+use Rattle.expressions.proofs.results.slot_given.Statement.{statement}
+use Rattle.expressions.proofs.results.slot_given.Tie as tie
 
 stuck-requires : tie.Need-stuck-requires
 stuck-requires c κs = search needs

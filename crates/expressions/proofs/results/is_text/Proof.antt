@@ -1,6 +1,6 @@
 use borrow.Author.Tests.{lt-ltb, le-ltb}
-use Rattle.expressions.proofs.walks.is_text.Statement.{statement}
-use Rattle.expressions.proofs.walks.is_text.Tie as tie
+use Rattle.expressions.proofs.results.is_text.Statement.{statement}
+use Rattle.expressions.proofs.results.is_text.Tie as tie
 
 returns : tie.Need-returns
 returns c = rw (lt-ltb (c .before .before .args .g .tag) 3 (c .if1 .taken))

@@ -1,7 +1,7 @@
 use Rattle.expressions.proofs.Givens.{truth-is}
 use borrow.Author.Needs.{needs}
-use Rattle.expressions.proofs.walks.truth.Statement.{statement}
-use Rattle.expressions.proofs.walks.truth.Tie as tie
+use Rattle.expressions.proofs.results.truth.Statement.{statement}
+use Rattle.expressions.proofs.results.truth.Tie as tie
 
 cast-t2 : tie.Need-cast-t2
 cast-t2 c = search needs

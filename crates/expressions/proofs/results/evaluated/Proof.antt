@@ -3,8 +3,8 @@ use Rattle.expressions.specs.Given.{givenOf}
 use Rattle.expressions.specs.Meant.{meant}
 use mathlib.Core.Path.{sym}
 use borrow.Author.Needs.{needs}
-use Rattle.expressions.proofs.walks.evaluated.Statement.{statement}
-use Rattle.expressions.proofs.walks.evaluated.Tie as tie
+use Rattle.expressions.proofs.results.evaluated.Statement.{statement}
+use Rattle.expressions.proofs.results.evaluated.Tie as tie
 
 value-of-requires : tie.Need-value-of-requires
 value-of-requires c κs = search needs

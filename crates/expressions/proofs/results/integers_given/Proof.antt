@@ -5,8 +5,8 @@ use Rattle.grammar.specs.Values.{numberAt}
 use mir.Facts.{toZ-ofZ}
 use mathlib.Core.Path.{_∙_, ap}
 use borrow.Author.Needs.{needs}
-use Rattle.expressions.proofs.walks.integers_given.Statement.{statement}
-use Rattle.expressions.proofs.walks.integers_given.Tie as tie
+use Rattle.expressions.proofs.results.integers_given.Statement.{statement}
+use Rattle.expressions.proofs.results.integers_given.Tie as tie
 
 calculate-requires : tie.Need-calculate-requires
 calculate-requires c κs = search needs

@@ -1,7 +1,7 @@
 use native.Mathlib.Omega.{arith}
 use Rattle.expressions.proofs.Givens.{stuck-is}
-use Rattle.expressions.proofs.walks.stuck.Statement.{statement}
-use Rattle.expressions.proofs.walks.stuck.Tie as tie
+use Rattle.expressions.proofs.results.stuck.Statement.{statement}
+use Rattle.expressions.proofs.results.stuck.Tie as tie
 
 returns : tie.Need-returns
 returns c = stuck-is (c .args .k) (omega arith)

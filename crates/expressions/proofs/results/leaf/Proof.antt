@@ -4,8 +4,8 @@ use lib.ListN.{take}
 use native.Mathlib.Omega.{arith}
 use mathlib.Core.Path.{_∙_}
 use borrow.Author.Needs.{needs}
-use Rattle.expressions.proofs.walks.leaf.Statement.{statement}
-use Rattle.expressions.proofs.walks.leaf.Tie as tie
+use Rattle.expressions.proofs.results.leaf.Statement.{statement}
+use Rattle.expressions.proofs.results.leaf.Tie as tie
 
 truth-requires : tie.Need-truth-requires
 truth-requires c κs = search needs

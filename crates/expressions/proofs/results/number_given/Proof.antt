@@ -2,8 +2,8 @@ use Rattle.expressions.proofs.Givens.{number-is, number-overflow, numbe
 use mir.Facts.{toZ-ofZ}
 use native.Mathlib.Omega.{arith}
 use borrow.Author.Needs.{needs}
-use Rattle.expressions.proofs.walks.number_given.Statement.{statement}
-use Rattle.expressions.proofs.walks.number_given.Tie as tie
+use Rattle.expressions.proofs.results.number_given.Statement.{statement}
+use Rattle.expressions.proofs.results.number_given.Tie as tie
 
 enum-known-n : tie.Need-enum-known-n
 enum-known-n c = search needs

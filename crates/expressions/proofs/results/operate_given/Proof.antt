@@ -4,8 +4,8 @@ use mir.Facts.{toZ-ofZ}
 use native.Mathlib.Omega.{arith}
 use mathlib.Core.Path.{_∙_}
 use borrow.Author.Needs.{needs}
-use Rattle.expressions.proofs.walks.operate_given.Statement.{statement}
-use Rattle.expressions.proofs.walks.operate_given.Tie as tie
+use Rattle.expressions.proofs.results.operate_given.Statement.{statement}
+use Rattle.expressions.proofs.results.operate_given.Tie as tie
 
 equal-given-requires : tie.Need-equal-given-requires
 equal-given-requires c κs = search needs

@@ -3,8 +3,8 @@ use Rattle.expressions.specs.Given.{held}
 use mir.Facts.{toZ-ofZ}
 use mathlib.Core.Path.{_∙_, sym}
 use borrow.Author.Needs.{needs}
-use Rattle.expressions.proofs.walks.equal_given.Statement.{statement}
-use Rattle.expressions.proofs.walks.equal_given.Tie as tie
+use Rattle.expressions.proofs.results.equal_given.Statement.{statement}
+use Rattle.expressions.proofs.results.equal_given.Tie as tie
 
 integer-of-requires : tie.Need-integer-of-requires
 integer-of-requires c κs = search needs
