@@ -27,6 +27,23 @@ use Rattle.values.proofs.SlotList.{slot-read, slot-past, slot-among-first}
 use Rattle.expressions.specs.Meant.{ofIntegers}
 use Rattle.expressions.specs.Given.{givenOf, textTag, spanOf, operatorOf, leafOf}
 
+-- ════ Small numbers, by cases ════
+
+abbrev pub eight : ℕ → ℕ
+eight n = suc (suc (suc (suc (suc (suc (suc (suc n)))))))
+
+-- a fact of 0 to 7 and of what lies past them is one of every number
+pub by-number : (P : ℕ → Type 0) → P 0 → P 1 → P 2 → P 3 → P 4 → P 5 → P 6 → P 7 → ((n : ℕ) → P (eight n)) → (n : ℕ) → P n
+by-number P a b c d e f g h past zero = a
+by-number P a b c d e f g h past (suc zero) = b
+by-number P a b c d e f g h past (suc (suc zero)) = c
+by-number P a b c d e f g h past (suc (suc (suc zero))) = d
+by-number P a b c d e f g h past (suc (suc (suc (suc zero)))) = e
+by-number P a b c d e f g h past (suc (suc (suc (suc (suc zero))))) = f
+by-number P a b c d e f g h past (suc (suc (suc (suc (suc (suc zero)))))) = g
+by-number P a b c d e f g h past (suc (suc (suc (suc (suc (suc (suc zero))))))) = h
+by-number P a b c d e f g h past (suc (suc (suc (suc (suc (suc (suc (suc n)))))))) = past n
+
 -- ════ Ends and values ════
 
 pub stuck-is : (k : ℕ) → k < 65536 → _≡_ {A = Evaluated Value} (givenOf 5 k) (stuck k)
@@ -35,78 +52,44 @@ stuck-is k h = let e : k % 65536 ≡ k = omega arith in rw e
 
 pub value-given : (tag payload : ℕ) → tag < 5 → givenOf tag payload ≡ value (valueOf tag payload)
 unfolding givenOf valueOf
-value-given zero payload h = refl
-value-given (suc zero) payload h = refl
-value-given (suc (suc zero)) payload h = refl
-value-given (suc (suc (suc zero))) payload h = refl
-value-given (suc (suc (suc (suc zero)))) payload h = refl
-value-given (suc (suc (suc (suc (suc tag))))) payload h = absurd (omega arith)
+value-given tag payload = by-number (λ t. t < 5 → givenOf t payload ≡ value (valueOf t payload))
+    (λ _. refl) (λ _. refl) (λ _. refl) (λ _. refl) (λ _. refl) (λ h. absurd (omega arith)) (λ h. absurd (omega arith)) (λ h. absurd (omega arith)) (λ n h. absurd (omega arith)) tag
 
 pub end-given : (tag payload : ℕ) (f : Value → Evaluated Value) → 5 ≤ tag → givenOf tag payload ≡ after (givenOf tag payload) f
 unfolding givenOf
-end-given zero payload f h = absurd (omega arith)
-end-given (suc zero) payload f h = absurd (omega arith)
-end-given (suc (suc zero)) payload f h = absurd (omega arith)
-end-given (suc (suc (suc zero))) payload f h = absurd (omega arith)
-end-given (suc (suc (suc (suc zero)))) payload f h = absurd (omega arith)
-end-given (suc (suc (suc (suc (suc zero))))) payload f h = refl
-end-given (suc (suc (suc (suc (suc (suc zero)))))) payload f h = refl
-end-given (suc (suc (suc (suc (suc (suc (suc zero))))))) payload f h = refl
-end-given (suc (suc (suc (suc (suc (suc (suc (suc tag)))))))) payload f h = refl
+end-given tag payload f = by-number (λ t. 5 ≤ t → givenOf t payload ≡ after (givenOf t payload) f)
+    (λ h. absurd (omega arith)) (λ h. absurd (omega arith)) (λ h. absurd (omega arith)) (λ h. absurd (omega arith)) (λ h. absurd (omega arith)) (λ _. refl) (λ _. refl) (λ _. refl) (λ n h. refl) tag
 
 -- 5 and what has no line
 pub stuck-given : (tag payload : ℕ) → 5 ≤ tag → (tag ≡ 6 → ⊥) → (tag ≡ 7 → ⊥) → _≡_ {A = Evaluated Value} (stuck (payload % 65536)) (givenOf tag payload)
 unfolding givenOf
-stuck-given zero payload h a b = absurd (omega arith)
-stuck-given (suc zero) payload h a b = absurd (omega arith)
-stuck-given (suc (suc zero)) payload h a b = absurd (omega arith)
-stuck-given (suc (suc (suc zero))) payload h a b = absurd (omega arith)
-stuck-given (suc (suc (suc (suc zero)))) payload h a b = absurd (omega arith)
-stuck-given (suc (suc (suc (suc (suc zero))))) payload h a b = refl
-stuck-given (suc (suc (suc (suc (suc (suc zero)))))) payload h a b = absurd (a refl)
-stuck-given (suc (suc (suc (suc (suc (suc (suc zero))))))) payload h a b = absurd (b refl)
-stuck-given (suc (suc (suc (suc (suc (suc (suc (suc tag)))))))) payload h a b = refl
+stuck-given tag payload = by-number (λ t. 5 ≤ t → (t ≡ 6 → ⊥) → (t ≡ 7 → ⊥) → _≡_ {A = Evaluated Value} (stuck (payload % 65536)) (givenOf t payload))
+    (λ h. absurd (omega arith)) (λ h. absurd (omega arith)) (λ h. absurd (omega arith)) (λ h. absurd (omega arith)) (λ h. absurd (omega arith)) (λ h a b. refl) (λ h a b. absurd (a refl)) (λ h a b. absurd (b refl)) (λ n h a b. refl) tag
 
 -- ════ Values of another type ════
 
 pub no-integer : (k tag payload : ℕ) (f : ℤ → Evaluated Value) → (tag ≡ 2 → ⊥) → stuck k ≡ wantInteger k (valueOf tag payload) f
 unfolding valueOf
-no-integer k zero payload f h = refl
-no-integer k (suc zero) payload f h = refl
-no-integer k (suc (suc zero)) payload f h = absurd (h refl)
-no-integer k (suc (suc (suc zero))) payload f h = refl
-no-integer k (suc (suc (suc (suc zero)))) payload f h = refl
-no-integer k (suc (suc (suc (suc (suc tag))))) payload f h = refl
+no-integer k tag payload f = by-number (λ t. (t ≡ 2 → ⊥) → stuck k ≡ wantInteger k (valueOf t payload) f)
+    (λ _. refl) (λ _. refl) (λ h. absurd (h refl)) (λ _. refl) (λ _. refl) (λ _. refl) (λ _. refl) (λ _. refl) (λ n _. refl) tag
 
 pub no-bool : (k tag payload : ℕ) (f : Bool → Evaluated Value) → (tag ≡ 1 → ⊥) → stuck k ≡ wantBool k (valueOf tag payload) f
 unfolding valueOf
-no-bool k zero payload f h = refl
-no-bool k (suc zero) payload f h = absurd (h refl)
-no-bool k (suc (suc zero)) payload f h = refl
-no-bool k (suc (suc (suc zero))) payload f h = refl
-no-bool k (suc (suc (suc (suc zero)))) payload f h = refl
-no-bool k (suc (suc (suc (suc (suc tag))))) payload f h = refl
+no-bool k tag payload f = by-number (λ t. (t ≡ 1 → ⊥) → stuck k ≡ wantBool k (valueOf t payload) f)
+    (λ _. refl) (λ h. absurd (h refl)) (λ _. refl) (λ _. refl) (λ _. refl) (λ _. refl) (λ _. refl) (λ _. refl) (λ n _. refl) tag
 
 no-text : (k tag payload : ℕ) (f : Span → Evaluated Value) → textTag tag ≡ false → stuck k ≡ wantText k (valueOf tag payload) f
 unfolding valueOf
-no-text k zero payload f h = refl
-no-text k (suc zero) payload f h = refl
-no-text k (suc (suc zero)) payload f h = refl
-no-text k (suc (suc (suc zero))) payload f h = never (sym h)
-no-text k (suc (suc (suc (suc zero)))) payload f h = never (sym h)
-no-text k (suc (suc (suc (suc (suc tag))))) payload f h = refl
+no-text k tag payload f = by-number (λ t. textTag t ≡ false → stuck k ≡ wantText k (valueOf t payload) f)
+    (λ _. refl) (λ _. refl) (λ _. refl) (λ h. never (sym h)) (λ h. never (sym h)) (λ _. refl) (λ _. refl) (λ _. refl) (λ n _. refl) tag
 
 text-past : (tag : ℕ) → 5 ≤ tag → textTag tag ≡ false
 text-past tag h = rw (le-ltb tag 3 (omega arith), le-ltb tag 5 h)
 
 a-text : (tag payload : ℕ) → textTag tag ≡ true → valueOf tag payload ≡ Val.Text (spanOf tag payload)
 unfolding valueOf
-a-text zero payload h = never h
-a-text (suc zero) payload h = never h
-a-text (suc (suc zero)) payload h = never h
-a-text (suc (suc (suc zero))) payload h = refl
-a-text (suc (suc (suc (suc zero)))) payload h = refl
-a-text (suc (suc (suc (suc (suc tag))))) payload h = never (sym (text-past (suc (suc (suc (suc (suc tag))))) (omega arith)) ∙ h)
+a-text tag payload = by-number (λ t. textTag t ≡ true → valueOf t payload ≡ Val.Text (spanOf t payload))
+    never never never (λ _. refl) (λ _. refl) never never never (λ n h. never (sym (text-past (eight n) (omega arith)) ∙ h)) tag
 
 -- ════ Equal ════
 
@@ -137,51 +120,31 @@ module _ (m l : List ℕ) (k vt vp wt wp : ℕ) where
 
 pub equal-none : (m l : List ℕ) (k vt vp : ℕ) (w : Value) → (vt ≡ 2 → ⊥) → (vt ≡ 1 → ⊥) → textTag vt ≡ false → stuck k ≡ equal m l k (valueOf vt vp) w
 unfolding valueOf equal
-equal-none m l k zero vp w a b c = refl
-equal-none m l k (suc zero) vp w a b c = absurd (b refl)
-equal-none m l k (suc (suc zero)) vp w a b c = absurd (a refl)
-equal-none m l k (suc (suc (suc zero))) vp w a b c = never (sym c)
-equal-none m l k (suc (suc (suc (suc zero)))) vp w a b c = never (sym c)
-equal-none m l k (suc (suc (suc (suc (suc vt))))) vp w a b c = refl
+equal-none m l k vt vp w = by-number (λ t. (t ≡ 2 → ⊥) → (t ≡ 1 → ⊥) → textTag t ≡ false → stuck k ≡ equal m l k (valueOf t vp) w)
+    (λ a b c. refl) (λ a b c. absurd (b refl)) (λ a b c. absurd (a refl)) (λ a b c. never (sym c)) (λ a b c. never (sym c)) (λ a b c. refl) (λ a b c. refl) (λ a b c. refl)
+    (λ n a b c. refl) vt
 
 -- ════ Operators by number ════
 
 pub not-of-integers : (j k : ℕ) (a b : ℤ) → (j ≡ 0 → ⊥) → (j ≡ 1 → ⊥) → (j ≡ 2 → ⊥) → (j ≡ 3 → ⊥) → (j ≡ 5 → ⊥) → stuck k ≡ ofIntegers (operatorOf j) k a b
 unfolding operatorOf ofIntegers
-not-of-integers zero k a b n0 n1 n2 n3 n5 = absurd (n0 refl)
-not-of-integers (suc zero) k a b n0 n1 n2 n3 n5 = absurd (n1 refl)
-not-of-integers (suc (suc zero)) k a b n0 n1 n2 n3 n5 = absurd (n2 refl)
-not-of-integers (suc (suc (suc zero))) k a b n0 n1 n2 n3 n5 = absurd (n3 refl)
-not-of-integers (suc (suc (suc (suc zero)))) k a b n0 n1 n2 n3 n5 = refl
-not-of-integers (suc (suc (suc (suc (suc zero))))) k a b n0 n1 n2 n3 n5 = absurd (n5 refl)
-not-of-integers (suc (suc (suc (suc (suc (suc zero)))))) k a b n0 n1 n2 n3 n5 = refl
-not-of-integers (suc (suc (suc (suc (suc (suc (suc zero))))))) k a b n0 n1 n2 n3 n5 = refl
-not-of-integers (suc (suc (suc (suc (suc (suc (suc (suc j)))))))) k a b n0 n1 n2 n3 n5 = refl
+not-of-integers j k a b = by-number (λ i. (i ≡ 0 → ⊥) → (i ≡ 1 → ⊥) → (i ≡ 2 → ⊥) → (i ≡ 3 → ⊥) → (i ≡ 5 → ⊥) → stuck k ≡ ofIntegers (operatorOf i) k a b)
+    (λ n0 n1 n2 n3 n5. absurd (n0 refl)) (λ n0 n1 n2 n3 n5. absurd (n1 refl)) (λ n0 n1 n2 n3 n5. absurd (n2 refl)) (λ n0 n1 n2 n3 n5. absurd (n3 refl)) (λ n0 n1 n2 n3 n5. refl)
+    (λ n0 n1 n2 n3 n5. absurd (n5 refl)) (λ n0 n1 n2 n3 n5. refl) (λ n0 n1 n2 n3 n5. refl) (λ n n0 n1 n2 n3 n5. refl) j
 
 module _ (m l : List ℕ) (k : ℕ) where
   -- arithmetic and greater
   on-integers : (j : ℕ) (v w : Value) → (j ≡ 4 → ⊥) → j < 6 → integers k v w (ofIntegers (operatorOf j) k) ≡ operate m l (operatorOf j) k v w
   unfolding operatorOf operate ofIntegers
-  on-integers zero v w a h = refl
-  on-integers (suc zero) v w a h = refl
-  on-integers (suc (suc zero)) v w a h = refl
-  on-integers (suc (suc (suc zero))) v w a h = refl
-  on-integers (suc (suc (suc (suc zero)))) v w a h = absurd (a refl)
-  on-integers (suc (suc (suc (suc (suc zero))))) v w a h = refl
-  on-integers (suc (suc (suc (suc (suc (suc j)))))) v w a h = absurd (omega arith)
+  on-integers j v w = by-number (λ i. (i ≡ 4 → ⊥) → i < 6 → integers k v w (ofIntegers (operatorOf i) k) ≡ operate m l (operatorOf i) k v w)
+      (λ a h. refl) (λ a h. refl) (λ a h. refl) (λ a h. refl) (λ a h. absurd (a refl)) (λ a h. refl) (λ a h. absurd (omega arith)) (λ a h. absurd (omega arith))
+      (λ n a h. absurd (omega arith)) j
 
   -- and, or
   on-bool : (j : ℕ) (v w : Value) → 6 ≤ j → wantBool k w truth ≡ operate m l (operatorOf j) k v w
   unfolding operatorOf operate
-  on-bool zero v w h = absurd (omega arith)
-  on-bool (suc zero) v w h = absurd (omega arith)
-  on-bool (suc (suc zero)) v w h = absurd (omega arith)
-  on-bool (suc (suc (suc zero))) v w h = absurd (omega arith)
-  on-bool (suc (suc (suc (suc zero)))) v w h = absurd (omega arith)
-  on-bool (suc (suc (suc (suc (suc zero))))) v w h = absurd (omega arith)
-  on-bool (suc (suc (suc (suc (suc (suc zero)))))) v w h = refl
-  on-bool (suc (suc (suc (suc (suc (suc (suc zero))))))) v w h = refl
-  on-bool (suc (suc (suc (suc (suc (suc (suc (suc j)))))))) v w h = refl
+  on-bool j v w = by-number (λ i. 6 ≤ i → wantBool k w truth ≡ operate m l (operatorOf i) k v w)
+      (λ h. absurd (omega arith)) (λ h. absurd (omega arith)) (λ h. absurd (omega arith)) (λ h. absurd (omega arith)) (λ h. absurd (omega arith)) (λ h. absurd (omega arith)) (λ _. refl) (λ _. refl) (λ n _. refl) j
 
   pub operate-equal : {j : ℕ} (v w : Value) → j ≡ 4 → equal m l k v w ≡ operate m l (operatorOf j) k v w
   unfolding operatorOf operate
@@ -232,21 +195,14 @@ present-unset k payload e = rw e
 
 pub present-other : (k tag payload : ℕ) → 4 < tag → stuck k ≡ present k (valueOf tag payload)
 unfolding valueOf
-present-other k zero payload h = absurd (omega arith)
-present-other k (suc zero) payload h = absurd (omega arith)
-present-other k (suc (suc zero)) payload h = absurd (omega arith)
-present-other k (suc (suc (suc zero))) payload h = absurd (omega arith)
-present-other k (suc (suc (suc (suc zero)))) payload h = absurd (omega arith)
-present-other k (suc (suc (suc (suc (suc tag))))) payload h = refl
+present-other k tag payload = by-number (λ t. 4 < t → stuck k ≡ present k (valueOf t payload))
+    (λ h. absurd (omega arith)) (λ h. absurd (omega arith)) (λ h. absurd (omega arith)) (λ h. absurd (omega arith)) (λ h. absurd (omega arith)) (λ _. refl) (λ _. refl) (λ _. refl) (λ n _. refl) tag
 
 pub present-set : (k tag payload : ℕ) → (tag ≡ 0 → ⊥) → tag < 5 → givenOf tag payload ≡ present k (valueOf tag payload)
 unfolding valueOf givenOf
-present-set k zero payload n h = absurd (n refl)
-present-set k (suc zero) payload n h = refl
-present-set k (suc (suc zero)) payload n h = refl
-present-set k (suc (suc (suc zero))) payload n h = refl
-present-set k (suc (suc (suc (suc zero)))) payload n h = refl
-present-set k (suc (suc (suc (suc (suc tag))))) payload n h = absurd (omega arith)
+present-set k tag payload = by-number (λ t. (t ≡ 0 → ⊥) → t < 5 → givenOf t payload ≡ present k (valueOf t payload))
+    (λ n h. absurd (n refl)) (λ n h. refl) (λ n h. refl) (λ n h. refl) (λ n h. refl) (λ n h. absurd (omega arith)) (λ n h. absurd (omega arith)) (λ n h. absurd (omega arith))
+    (λ i n h. absurd (omega arith)) tag
 
 module _ (slots : Slots) (k a b : ℕ) where
   pub leaf-bool : {kind : ℕ} → kind ≡ 16 → truth (eqb a 1) ≡ leafOf slots kind k a b

@@ -15,6 +15,7 @@ use Rattle.grammar.specs.Words.{word, ruleCount, kindAt, nodeWord, nodeAt, node
 use Rattle.table.specs.Fields.{nodeOfTwo}
 use Rattle.table.proofs.Decoding.{node-call, node-other}
 use Rattle.expressions.specs.Given.{operatorOf, leafOf}
+use Rattle.expressions.proofs.Givens.{eight, by-number}
 
 far : (kind a b : ℕ) → 28 < kind → getD (nodes a b 0 0 0 0 0 0 0) kind N.Unknown ≡ N.Unknown
 unfolding nodes
@@ -25,29 +26,14 @@ unfolding nodeOfTwo nodeFor nodes
 not-node a b s = rw s
 
 module _ (S : Setting) (slots : Slots) (parts : ℕ → Expr) (k a b : ℕ) where
-  pub leaf-node : (kind : ℕ) → kind < 20 → leafOf slots kind k a b ≡ eval S slots (exprOf parts k (nodeOfTwo kind a b))
+  abbrev P : ℕ → Type 0
+  P kind = kind < 20 → leafOf slots kind k a b ≡ eval S slots (exprOf parts k (nodeOfTwo kind a b))
+
+  pub leaf-node : (kind : ℕ) → P kind
   unfolding leafOf eval exprOf nodeOfTwo nodeFor nodes
-  leaf-node zero h = refl
-  leaf-node (suc zero) h = refl
-  leaf-node (suc (suc zero)) h = refl
-  leaf-node (suc (suc (suc zero))) h = refl
-  leaf-node (suc (suc (suc (suc zero)))) h = refl
-  leaf-node (suc (suc (suc (suc (suc zero))))) h = refl
-  leaf-node (suc (suc (suc (suc (suc (suc zero)))))) h = refl
-  leaf-node (suc (suc (suc (suc (suc (suc (suc zero))))))) h = refl
-  leaf-node (suc (suc (suc (suc (suc (suc (suc (suc zero)))))))) h = refl
-  leaf-node (suc (suc (suc (suc (suc (suc (suc (suc (suc zero))))))))) h = refl
-  leaf-node (suc (suc (suc (suc (suc (suc (suc (suc (suc (suc zero)))))))))) h = refl
-  leaf-node (suc (suc (suc (suc (suc (suc (suc (suc (suc (suc (suc zero))))))))))) h = refl
-  leaf-node (suc (suc (suc (suc (suc (suc (suc (suc (suc (suc (suc (suc zero)))))))))))) h = refl
-  leaf-node (suc (suc (suc (suc (suc (suc (suc (suc (suc (suc (suc (suc (suc zero))))))))))))) h = refl
-  leaf-node (suc (suc (suc (suc (suc (suc (suc (suc (suc (suc (suc (suc (suc (suc zero)))))))))))))) h = refl
-  leaf-node (suc (suc (suc (suc (suc (suc (suc (suc (suc (suc (suc (suc (suc (suc (suc zero))))))))))))))) h = refl
-  leaf-node (suc (suc (suc (suc (suc (suc (suc (suc (suc (suc (suc (suc (suc (suc (suc (suc zero)))))))))))))))) h = refl
-  leaf-node (suc (suc (suc (suc (suc (suc (suc (suc (suc (suc (suc (suc (suc (suc (suc (suc (suc zero))))))))))))))))) h = refl
-  leaf-node (suc (suc (suc (suc (suc (suc (suc (suc (suc (suc (suc (suc (suc (suc (suc (suc (suc (suc zero)))))))))))))))))) h = refl
-  leaf-node (suc (suc (suc (suc (suc (suc (suc (suc (suc (suc (suc (suc (suc (suc (suc (suc (suc (suc (suc zero))))))))))))))))))) h = refl
-  leaf-node (suc (suc (suc (suc (suc (suc (suc (suc (suc (suc (suc (suc (suc (suc (suc (suc (suc (suc (suc (suc kind)))))))))))))))))))) h = absurd (omega arith)
+  leaf-node = by-number P (λ _. refl) (λ _. refl) (λ _. refl) (λ _. refl) (λ _. refl) (λ _. refl) (λ _. refl) (λ _. refl)
+      (by-number (λ n. P (eight n)) (λ _. refl) (λ _. refl) (λ _. refl) (λ _. refl) (λ _. refl) (λ _. refl) (λ _. refl) (λ _. refl)
+      (by-number (λ n. P (eight (eight n))) (λ _. refl) (λ _. refl) (λ _. refl) (λ _. refl) (λ h. absurd (omega arith)) (λ h. absurd (omega arith)) (λ h. absurd (omega arith)) (λ h. absurd (omega arith)) (λ n h. absurd (omega arith))))
 
   pub far-node : (kind : ℕ) → 28 < kind → truth false ≡ eval S slots (exprOf parts k (nodeOfTwo kind a b))
   unfolding eval exprOf nodeOfTwo nodeFor
@@ -55,15 +41,8 @@ module _ (S : Setting) (slots : Slots) (parts : ℕ → Expr) (k a b : ℕ) wher
 
 pub binary-node : (j a b : ℕ) → j < 8 → nodeOfTwo (20 + j) a b ≡ N.Binary (operatorOf j) a b
 unfolding nodeOfTwo nodeFor nodes operatorOf
-binary-node zero a b h = refl
-binary-node (suc zero) a b h = refl
-binary-node (suc (suc zero)) a b h = refl
-binary-node (suc (suc (suc zero))) a b h = refl
-binary-node (suc (suc (suc (suc zero)))) a b h = refl
-binary-node (suc (suc (suc (suc (suc zero))))) a b h = refl
-binary-node (suc (suc (suc (suc (suc (suc zero)))))) a b h = refl
-binary-node (suc (suc (suc (suc (suc (suc (suc zero))))))) a b h = refl
-binary-node (suc (suc (suc (suc (suc (suc (suc (suc j)))))))) a b h = absurd (omega arith)
+binary-node j a b = by-number (λ i. i < 8 → nodeOfTwo (20 + i) a b ≡ N.Binary (operatorOf i) a b)
+    (λ _. refl) (λ _. refl) (λ _. refl) (λ _. refl) (λ _. refl) (λ _. refl) (λ _. refl) (λ _. refl) (λ n h. absurd (omega arith)) j
 
 -- a call's other fields make no difference
 node-seen : (parts : ℕ → Expr) (words : List ℕ) (k : ℕ) → exprOf parts k (nodeOfTwo (kindAt words k) (nodeWord words k 1) (nodeWord words k 2)) ≡ exprOf parts k (nodeAt words k)

@@ -21,7 +21,7 @@ use Rattle.expressions.specs.declared.results.Given.{Given}
 use Rattle.expressions.specs.declared.walks.Walk.{Walk}
 use Rattle.expressions.specs.Given.{givenOf, given, held, operatorOf, leafOf}
 use Rattle.expressions.specs.Walks.{Asked, asked, AtWork, left, right, opposing, atWork, numberOf, workAt, givesAt, withLeft, resolved, owed, Anything, walking, Steps, foundAt, Opened}
-use Rattle.expressions.proofs.Givens.{value-given, no-bool}
+use Rattle.expressions.proofs.Givens.{by-number, value-given, no-bool}
 use Rattle.expressions.proofs.Nodes.{leaf-node, far-node, binary-node, not-node, tree-seen}
 
 -- ════ Operators at work, in numbers ════
@@ -169,13 +169,8 @@ module _ (words literals message slots : List ℕ) (levels : ℕ) (pile : List �
 module _ (m l : List ℕ) (k : ℕ) (rest : Evaluated Value) where
   look-eager : (j : ℕ) (v : Value) → j < 6 → rest ≡ lookLeft m l (operatorOf j) k v rest
   unfolding operatorOf lookLeft
-  look-eager zero v h = refl
-  look-eager (suc zero) v h = refl
-  look-eager (suc (suc zero)) v h = refl
-  look-eager (suc (suc (suc zero))) v h = refl
-  look-eager (suc (suc (suc (suc zero)))) v h = refl
-  look-eager (suc (suc (suc (suc (suc zero))))) v h = refl
-  look-eager (suc (suc (suc (suc (suc (suc j)))))) v h = absurd (omega arith)
+  look-eager j v = by-number (λ i. i < 6 → rest ≡ lookLeft m l (operatorOf i) k v rest)
+      (λ _. refl) (λ _. refl) (λ _. refl) (λ _. refl) (λ _. refl) (λ _. refl) (λ h. absurd (omega arith)) (λ h. absurd (omega arith)) (λ n h. absurd (omega arith)) j
 
   -- and is 6, or is 7
   abbrev lazily : ℕ → Value → Evaluated Value

@@ -1,10 +1,9 @@
 -- In a sound table each node's tree is made of its parts' trees, and each rule of the grammar is that of its record. Assumes nothing.
 use mathlib.Core.Path.{_≡_, refl, sym, ap, _∙_}
 use mathlib.Core.List.{List}
-use Prim.Native.Nat.{ℕ, zero, suc, _<_}
+use Prim.Native.Nat.{ℕ, zero, suc, min, _<_}
 use native.Mathlib.Nat.{zero-add}
 use native.Mathlib.Omega.{arith}
-use borrow.Author.Tests.{lt-ltb}
 use lib.ListN.{length}
 use Rattle.laws.specs.Tabulate.{at-tabulate, length-tabulate}
 use Rattle.grammar.specs.declared.Node.{Node}
@@ -60,6 +59,11 @@ module _ (words : List ℕ) (k : ℕ) where
 
 -- ════ Trees ════
 
+-- The 1,024 levels are all levels of a node below 1,024
+pub below-1024 : (words : List ℕ) (k : ℕ) → k < 1024 → exprAt words k ≡ exprWith (suc k) words k
+unfolding exprAt
+below-1024 words k h = let all : min (suc k) 1024 ≡ suc k = omega arith in rw all
+
 module _ (words literals : List ℕ) (table : SoundTable words literals) where
   -- any two fuels above the node's number give the same tree
   expr-fuel : (f g k : ℕ) → k < nodeCount words → k < f → k < g → exprWith f words k ≡ exprWith g words k
@@ -78,17 +82,16 @@ module _ (words literals : List ℕ) (table : SoundTable words literals) where
       parsingOf-same words k (inheritedCount words) (returnedCount words) (exprAt words) (parsingWith f words) (parsingWith g words) (nodeAt words k)
       (λ a l. parsing-fuel f g a (omega arith) (omega arith) (omega arith)) (node-right words literals table k c)
 
-  expr-enough : (k : ℕ) → k < nodeCount words → exprAt words k ≡ exprWith (suc k) words k
-  unfolding exprAt
-  expr-enough k c = let most = sizes words literals table .most-nodes in rw (lt-ltb k 1024 (omega arith))
+  all-levels : (k : ℕ) → k < nodeCount words → exprAt words k ≡ exprWith (suc k) words k
+  all-levels k c = let most = sizes words literals table .most-nodes in below-1024 words k (omega arith)
 
   -- An expression's tree is made of its parts' trees
   pub expr-tree : (k : ℕ) → k < nodeCount words → exprAt words k ≡ exprOf (exprAt words) k (nodeAt words k)
   unfolding exprWith
   expr-tree k c =
-      expr-enough k c
+      all-levels k c
       ∙ exprOf-same words k (exprWith k words) (exprAt words) (nodeAt words k)
-      (λ a l. expr-fuel k (suc a) a (omega arith) l (omega arith) ∙ sym (expr-enough a (omega arith)))
+      (λ a l. expr-fuel k (suc a) a (omega arith) l (omega arith) ∙ sym (all-levels a (omega arith)))
       (node-right words literals table k c)
 
   -- A parsing node's tree is made of its parts' trees

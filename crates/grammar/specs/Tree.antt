@@ -1,9 +1,8 @@
 -- The trees that a table stands for. A node's tree carries the node's number, which answers name as their place.
 -- Assumes nothing.
 use mathlib.Core.List.{List, [], _∷_, map}
-use mathlib.Core.Bool.{Bool, false, cond}
-use Prim.Native.Nat.{ℕ, zero, suc}
-use lib.Dec.{ltb}
+use mathlib.Core.Bool.{Bool, false}
+use Prim.Native.Nat.{ℕ, zero, suc, min}
 use lib.IntN.{ℤ}
 use lib.ListN.{getD, take}
 use Rattle.grammar.specs.declared.Operator.{Operator}
@@ -106,14 +105,14 @@ parsingOf n m expr part k (N.Slot s) = empty k
 parsingOf n m expr part k (N.Binary op a b) = empty k
 parsingOf n m expr part k (N.Negation a) = empty k
 
--- Node k's tree. Parts have smaller numbers than their node, so fuel k + 1 is enough, and a table has at most 1,024 nodes, so fuel 1,024 is;
--- proofs/Decode.antt shows that more makes no difference.
-abbrev pub levelsOf : ℕ → ℕ
-levelsOf k = cond (ltb k 1024) (suc k) 1024
-
+-- Node k's tree. Parts have smaller numbers than their node, so fuel k + 1 is enough; proofs/Decode.antt shows that more makes no difference.
 unfoldable pub exprWith : ℕ → List ℕ → ℕ → Expr
 exprWith zero words k = bool k false
 exprWith (suc fuel) words k = exprOf (exprWith fuel words) k (nodeAt words k)
+
+-- 'K nodes (1 to 1,024)': no tree is followed deeper. proofs/Decode.antt shows that this changes nothing for a node below 1,024, whatever the table
+abbrev pub levelsOf : ℕ → ℕ
+levelsOf k = min (suc k) 1024
 
 unfoldable pub exprAt : List ℕ → ℕ → Expr
 exprAt words k = exprWith (levelsOf k) words k

@@ -1,6 +1,4 @@
-use native.Mathlib.Numerals.{add-one}
 use native.Mathlib.Omega.{arith}
-use borrow.Author.Tests.{lt-ltb, le-ltb}
 use borrow.Author.Needs.{needs}
 use Rattle.expressions.proofs.levels_of.Statement.{statement}
 use Rattle.expressions.proofs.levels_of.Tie as tie
@@ -9,10 +7,10 @@ add-result : tie.Need-add-result
 add-result c = search needs
 
 returns : tie.Need-returns
-returns c = (rw (lt-ltb (c .before .args .k) 1024 (c .if1 .taken)) (add-one (c .before .args .k)), omega arith, omega arith)
+returns c = (omega arith, omega arith, omega arith)
 
 returns-2 : tie.Need-returns-2
-returns-2 c = (rw (le-ltb (c .before .args .k) 1024 (c .if1 .left)), omega arith, omega arith)
+returns-2 c = (omega arith, omega arith, omega arith)
 
 pub levels-of-spec : {M : Type 1} → statement M
 levels-of-spec = tie.close (tie.spec add-result returns returns-2)
