@@ -1,4 +1,4 @@
-pub mod Steps
+pub mod Promise
 pub mod Givens
 pub mod Nodes
 pub mod Walking

@@ -1,12 +1,13 @@
 -- The digits of a decimal. Assumes nothing.
 use mathlib.Core.Path.{_≡_, refl, sym, ap, _∙_}
-use mathlib.Core.List.{List, [], _∷_, _++_}
+use mathlib.Core.List.{List, [], _∷_, _++_, append-assoc, append-nil}
 use mathlib.Core.Bool.{Bool, true, false, cond}
 use Prim.Native.Nat.{ℕ, zero, suc, _+_, _-_, _*_, _/_, _%_, _^_, _≤_, _<_}
 use native.Mathlib.Omega.{arith}
 use lib.Dec.{ltb}
 use lib.IntN.{ℤ, pos, negsuc, natAbs}
-use lib.ListN.{length, length-append}
+use lib.ListN.{length, take, drop, set, length-append, length-drop, drop-of-length-le}
+use lib.Seq.{take-all}
 use lib.Signed.{ltZ}
 use borrow.Author.Tests.{lt-ltb, le-ltb, ltb-true, ltb-false}
 use Rattle.text.specs.Written.{digits, decimal, signedDecimal}
@@ -45,6 +46,44 @@ decimal-grown v d h g s =
     let r : (v * 10 + d) % 10 ≡ d = omega arith in
     decimal-more (v * 10 + d) (omega arith) s ∙ ap (λ (x : ℕ). decimal x ++ ((48 + (v * 10 + d) % 10) ∷ [])) q
     ∙ ap (λ (x : ℕ). decimal v ++ ((48 + x) ∷ [])) r
+
+-- ════ From the last digit to the first, into bytes ════
+
+-- what is stored at a place stands before what stood behind it
+drop-stored : (l : List ℕ) (i x : ℕ) → i < length l → drop i (set l i x) ≡ x ∷ drop (suc i) l
+drop-stored [] i x h = absurd (omega arith)
+drop-stored (y ∷ l) zero x h = refl
+drop-stored (y ∷ l) (suc i) x h = drop-stored l i x (omega arith)
+
+-- no digit yet
+pub digit-none : (l : List ℕ) (n : ℕ) → length l ≡ 10 → decimal n ++ drop 10 l ≡ decimal n
+digit-none l n h = rw (drop-of-length-le l (let g : length l ≤ 10 = omega arith in g)) (append-nil (decimal n))
+
+-- room for the digits that are left
+pub digit-room : (i rest : ℕ) → 10 ≤ rest → rest < 10 ^ i → (0 < i - 1) × (rest / 10 < 10 ^ (i - 1))
+digit-room zero rest more bound = absurd (omega arith)
+digit-room (suc zero) rest more bound = absurd (omega arith)
+digit-room (suc (suc i)) rest more bound = let e : suc (suc i) - 1 ≡ suc i = omega arith in rw e (omega arith, omega arith)
+
+module _ (l : List ℕ) (i n rest : ℕ) (some : 0 < i) (fits : i ≤ length l) (same : decimal rest ++ drop i l ≡ decimal n) where
+  back : drop (suc (i - 1)) l ≡ drop i l
+  back = let e : suc (i - 1) ≡ i = omega arith in rw e
+
+  -- a digit, and more before it
+  pub digit-more : 10 ≤ rest → rest < 10 ^ 10 → decimal (rest / 10) ++ drop (i - 1) (set l (i - 1) (48 + rest % 10)) ≡ decimal n
+  digit-more more bound =
+      rw (drop-stored l (i - 1) (48 + rest % 10) (omega arith), back)
+      (sym (append-assoc (decimal (rest / 10)) ((48 + rest % 10) ∷ []) (drop i l)) ∙ ap (λ (x : List ℕ). x ++ drop i l) (sym (decimal-more rest more bound)) ∙ same)
+
+  -- the first digit
+  pub digit-first : rest < 10 → drop (i - 1) (set l (i - 1) (48 + rest)) ≡ decimal n
+  digit-first small =
+      rw (drop-stored l (i - 1) (48 + rest) (omega arith), back)
+      (ap (λ (x : List ℕ). x ++ drop i l) (sym (decimal-small rest small)) ∙ same)
+
+-- the part that the digits are
+pub digits-part : (l : List ℕ) (i n : ℕ) → length l ≡ 10 → drop i l ≡ decimal n → take (10 - i) (drop i l) ≡ decimal n
+digits-part l i n h e = take-all (10 - i) (drop i l) (omega (arith, length-drop i l)) ∙ e
 
 cond-length : (t : Bool) (x y : List ℕ) (k : ℕ) → length x ≤ k → length y ≤ k → length (cond t x y) ≤ k
 cond-length true x y k h g = h

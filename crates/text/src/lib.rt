@@ -2,8 +2,8 @@
 // storing past the end is no change, and a place stops at the largest number that a place can be.
 ghost use mathlib.Core.Path.{_≡_};
 ghost use mathlib.Core.List.{[], _∷_};
-ghost use Prim.Native.Nat.{_<_, _^_};
-ghost use lib.ListN.{drop};
+ghost use Prim.Native.Nat.{_<_, _≤_, _^_};
+ghost use lib.ListN.{drop, length};
 ghost use lib.IntN.{natAbs};
 ghost use Rattle.text.specs.Stored.{Wrote, Took, placeAfter};
 ghost use Rattle.text.specs.Written.{decimal, signedDecimal, hexDigit, hex};
@@ -68,15 +68,30 @@ pub fn put_bytes(text: &mut [u8], at: usize, bytes: &[u8]) -> usize
     next
 }
 
+// A number in decimal at the end of ten bytes, its last digit first: the place of the first digit. A 32-bit number has at most ten.
+fn decimal_in(digits: &mut [u8], n: u32) -> usize
+    requires { ⌜ length (now digits) ≡ 10 ⌝ }
+    ensures { λ r. ⌜ (r ≤ 10) × (drop r (now (digits .exit)) ≡ decimal n) ⌝ }
+{
+    let mut rest = n;
+    let mut first: usize = 10;
+    while 10 <= rest {
+        first -= 1;
+        digits[first] = (48 + rest % 10) as u8;
+        rest /= 10;
+    }
+    first -= 1;
+    digits[first] = (48 + rest) as u8;
+    first
+}
+
 // Stores a number in decimal.
 pub fn put_decimal(text: &mut [u8], at: usize, n: u32) -> usize
     ensures { λ r. ⌜ Wrote (now (text .entry)) at (decimal n) r (now (text .exit)) ⌝ }
 {
-    if n < 10 {
-        return put(text, at, (48 + n) as u8);
-    }
-    let next = put_decimal(text, at, n / 10);
-    put(text, next, (48 + n % 10) as u8)
+    let mut digits = [0u8; 10];
+    let first = decimal_in(&mut digits, n);
+    put_bytes(text, at, &digits[first..])
 }
 
 fn magnitude(n: i32) -> u32

@@ -1,4 +1,4 @@
--- Two answers that the contract of `evaluate` allows are one. Assumes nothing.
+-- What follows from the promise of `evaluate`: two answers that it allows are one. Assumes nothing.
 use mathlib.Core.Path.{_≡_}
 use Prim.Native.Nat.{ℕ}
 use native.Mathlib.Omega.{arith}
