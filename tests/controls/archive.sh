@@ -1,9 +1,9 @@
 # shellcheck shell=bash
 # What is handed over to be run was proved as it stands: where a proof is broken there is nothing, though something stands there from before.
 copy crates crates.txt
-mkdir -p target/bin target/staticlib
-touch -d 2000-01-01 target/bin/console target/staticlib/libexports.a
+mkdir -p target/bin target/staticlib target/module
+touch -d 2000-01-01 target/bin/console target/staticlib/libexports.a target/module/module.bc
 echo broken >>crates/laws/specs/Range.antt
-for script in archive library console_command; do
+for script in archive library module console_command; do
     fails "$script.sh, of a crate that is not proved" 'laws is not proved' "tests/$script.sh"
 done

@@ -2,8 +2,10 @@
 //! reading of document 01 and the means to compare it with the proved reader.
 
 pub mod arguments;
+pub mod bound;
 pub mod boundary;
 pub mod compare;
+pub mod deep;
 pub mod exported;
 #[cfg(feature = "library")]
 pub mod library;

@@ -4,9 +4,15 @@ use crate::exported::{Exports, WORK_WORDS};
 use crate::reference::run::Lent;
 
 extern "C" {
-    fn styrmflo_check(words: *const u16, n: usize, literals: *const u8, l: usize) -> u32;
-    fn styrmflo_type_check(words: *const u16, n: usize, literals: *const u8, l: usize) -> u32;
-    fn styrmflo_bench(
+    pub(crate) fn styrmflo_check(words: *const u16, n: usize, literals: *const u8, l: usize)
+        -> u32;
+    pub(crate) fn styrmflo_type_check(
+        words: *const u16,
+        n: usize,
+        literals: *const u8,
+        l: usize,
+    ) -> u32;
+    pub(crate) fn styrmflo_bench(
         words: *const u16,
         n: usize,
         literals: *const u8,
@@ -19,7 +25,7 @@ extern "C" {
         twelve: *mut u32,
         t: usize,
     );
-    fn styrmflo_display(
+    pub(crate) fn styrmflo_display(
         words: *const u16,
         n: usize,
         literals: *const u8,
@@ -32,7 +38,7 @@ extern "C" {
         twelve: *mut u32,
         t: usize,
     );
-    fn styrmflo_read(
+    pub(crate) fn styrmflo_read(
         text: *const u8,
         x: usize,
         words: *mut u16,
@@ -42,7 +48,7 @@ extern "C" {
         answer: *mut u64,
         a: usize,
     );
-    fn styrmflo_write(
+    pub(crate) fn styrmflo_write(
         words: *const u16,
         n: usize,
         literals: *const u8,
@@ -52,7 +58,7 @@ extern "C" {
         answer: *mut u64,
         a: usize,
     );
-    fn styrmflo_text(message: usize, literals: usize, tag: u32, payload: u32) -> u64;
+    pub(crate) fn styrmflo_text(message: usize, literals: usize, tag: u32, payload: u32) -> u64;
 }
 
 pub struct Library;

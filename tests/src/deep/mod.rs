@@ -1,0 +1,11 @@
+//! Tables that nest as deep as 1,024 nodes allow, and the exported functions
+//! called with them on a stack of a few kilobytes.
+
+pub mod nests;
+#[cfg(feature = "library")]
+pub mod on_stack;
+#[cfg(feature = "library")]
+pub mod stack;
+pub mod tables;
+#[cfg(feature = "library")]
+pub mod trial;
