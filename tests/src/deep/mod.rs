@@ -7,5 +7,6 @@ pub mod on_stack;
 #[cfg(feature = "library")]
 pub mod stack;
 pub mod tables;
+pub mod trees;
 #[cfg(feature = "library")]
 pub mod trial;

@@ -3,6 +3,7 @@
 //! are spoiled on purpose.
 
 use super::nests::{Nest, EXPRESSIONS, GREATERS, HELD, NO_TYPE, PARSING};
+use super::trees;
 use crate::numbers::{DONE, FIELD, TYPE};
 use crate::random::draft::Draft;
 use crate::reference::run::MOST_DEPTH;
@@ -75,7 +76,7 @@ fn fault(draft: &mut Draft, given: u16) -> u16 {
 
 /// Where an expression can stand.
 #[derive(Clone, Copy, Debug)]
-enum Place {
+pub(super) enum Place {
     Constraint,
     Update,
     Argument(usize),
@@ -83,7 +84,7 @@ enum Place {
     ReturnedByCallee,
 }
 
-const PLACES: [Place; 7] = [
+pub(super) const PLACES: [Place; 7] = [
     Place::Constraint,
     Place::Update,
     Place::Argument(0),
@@ -107,7 +108,7 @@ impl Place {
     }
 
     /// Completes a table that has just the expression.
-    fn complete(self, draft: &mut Draft, expression: u16, whole: u16) {
+    pub(super) fn complete(self, draft: &mut Draft, expression: u16, whole: u16) {
         let leaves = |draft: &mut Draft, count: usize| -> Vec<u16> {
             (0..count).map(|_| draft.node(BOOL, &[1])).collect()
         };
@@ -201,14 +202,20 @@ fn nested(
     (node, levels)
 }
 
-fn drafted() -> Draft {
+pub(super) fn drafted() -> Draft {
     Draft {
         literals: LITERALS.to_vec(),
         ..Draft::default()
     }
 }
 
-fn finished(name: String, draft: &Draft, levels: usize, verdict: u32, plain: bool) -> Deep {
+pub(super) fn finished(
+    name: String,
+    draft: &Draft,
+    levels: usize,
+    verdict: u32,
+    plain: bool,
+) -> Deep {
     assert!(draft.nodes.len() <= MOST_NODES, "{name}: too many nodes");
     assert!(
         height(draft) > levels,
@@ -394,6 +401,7 @@ pub fn all() -> Vec<Maker> {
     }
     all.push(Box::new(calling_itself));
     all.push(Box::new(calling_the_next));
+    all.extend(trees::all());
     all
 }
 
