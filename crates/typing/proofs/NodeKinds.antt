@@ -1,19 +1,31 @@
 -- What a node is, by the number of its kind. Assumes nothing.
-use mathlib.Core.Path.{_≡_, refl}
+use mathlib.Core.Path.{_≡_, refl, sym, _∙_}
 use mathlib.Core.List.{List}
-use mathlib.Core.Option.{Option, some}
+use mathlib.Core.Bool.{true, false}
+use mathlib.Core.Option.{some}
 use Prim.Native.Nat.{ℕ, _<_, _≤_}
 use native.Mathlib.Omega.{arith}
+use borrow.Author.Tests.{lt-ltb, le-ltb, ne-eqb}
+use Rattle.laws.specs.Tests.{never}
 use Rattle.laws.specs.Lines.{Lines, done, _then_, line}
 use Rattle.grammar.specs.declared.Arithmetic.the-variants.{Add, Subtract, Multiply, Divide}
 use Rattle.grammar.specs.declared.Operator.{Operator}
 use Rattle.grammar.specs.declared.Operator.the-variants.{Calculate, Equal, Greater, And, Or}
 use Rattle.grammar.specs.declared.Node.{Node}
 use Rattle.grammar.specs.declared.Node.the-variants as N
-use Rattle.grammar.specs.Words.{kindAt, nodeWord, nodes, nodeFor, nodeAt, signed, inheritedCount, returnedCount}
+use Rattle.grammar.specs.Words.{kindAt, nodeWord, nodes, nodeFor, nodeAt, inheritedCount, returnedCount}
 use Rattle.grammar.specs.Tree.{Expr, exprAt, exprOf, parsingAt, parsingOf, grammarOf}
 use Rattle.grammar.specs.Types.{Env, operatorType, exprType, typeOf}
-use Rattle.typing.specs.Terms.{kindType}
+use Rattle.typing.specs.Expressions.{kindType}
+use Rattle.typing.specs.Walk.{hasParts}
+
+-- a node with parsing parts, by its kind and its first two fields
+pub data Parts (a b : ℕ) : ℕ → Node → Type 0 where
+  sequence : Parts a b 3 (N.Sequence a b)
+  choice : Parts a b 4 (N.Choice a b)
+  repeat : Parts a b 5 (N.Repeat a)
+  refusal : Parts a b 6 (N.Not a)
+  bind : Parts a b 8 (N.Bind a b)
 
 -- an operator with two operands, and the types that it gives
 pub record Binary (kind a b : ℕ) (n : Node) : Type 0 where
@@ -25,119 +37,85 @@ module _ (words : List ℕ) (k : ℕ) where
   abbrev field : ℕ → ℕ
   field j = nodeWord words k j
 
-  -- what a parsing node leaves, by the node that it is
-  abbrev leavesAs : Env → Node → Option Env
-  leavesAs env n = typeOf (grammarOf words) env (parsingOf (inheritedCount words) (returnedCount words) (exprAt words) (parsingAt words) k n)
+  -- a Bool, as an expression
+  abbrev Boolean : Node → Type 0
+  Boolean n = (env : Env) (part : ℕ → Expr) → 1 ≡ exprType env (exprOf part k n)
 
-  -- what no operator is, what an operator is, and what no parsing node with parts or expressions leaves
-  record Says (kind : ℕ) (m n : Node) : Type 0 where
-    bools : kind < 17 → (env : Env) (part : ℕ → Expr) → 1 ≡ exprType env (exprOf part k n)
-    binary : 20 ≤ kind → kind < 28 → Binary kind (field 1) (field 2) n
-    plain : (3 ≤ kind → kind ≤ 10 → ⊥) → (env : Env) → some env ≡ leavesAs env n
+  -- a node that leaves the slots as they are
+  abbrev Plain : Node → Type 0
+  Plain n = (env : Env) → some env ≡ typeOf (grammarOf words) env (parsingOf (inheritedCount words) (returnedCount words) (exprAt words) (parsingAt words) k n)
 
-  parsing-line : (kind : ℕ) {m n : Node} → 3 ≤ kind → kind ≤ 10 → ((env : Env) (part : ℕ → Expr) → 1 ≡ exprType env (exprOf part k n)) → Says kind m n
-  parsing-line kind l h e = record { bools = λ _. e; binary = λ i j. absurd (omega arith); plain = λ out. absurd (out l h) }
+  -- what the numbers below 17 are as expressions, the operators, the nodes with parsing parts, and all that leave the slots as they are
+  pub record Says (kind : ℕ) (m n : Node) : Type 0 where
+    pub bools : kind < 17 → Boolean n
+    pub binary : 20 ≤ kind → kind < 28 → Binary kind (field 1) (field 2) n
+    pub parts : hasParts kind ≡ true → Parts (field 1) (field 2) kind n
+    pub plain : hasParts kind ≡ false → (kind ≡ 7 → ⊥) → (kind ≡ 9 → ⊥) → (kind ≡ 10 → ⊥) → Plain n
 
-  other-line : (kind : ℕ) {m n : Node} → (kind < 17 → (env : Env) (part : ℕ → Expr) → 1 ≡ exprType env (exprOf part k n))
-      → (20 ≤ kind → kind < 28 → Binary kind (field 1) (field 2) n) → ((env : Env) → some env ≡ leavesAs env n) → Says kind m n
-  other-line kind e b f = record { bools = e; binary = b; plain = λ _. f }
+  module _ (kind : ℕ) {m n : Node} where
+    composite : kind < 17 → hasParts kind ≡ true → Parts (field 1) (field 2) kind n → Boolean n → Says kind m n
+    composite h e p b = record { bools = λ _. b; binary = λ l i. absurd (omega arith); parts = λ _. p; plain = λ f. never (sym f ∙ e) }
+
+    other : kind < 17 → hasParts kind ≡ false → ((kind ≡ 7 → ⊥) → (kind ≡ 9 → ⊥) → (kind ≡ 10 → ⊥) → Plain n) → Boolean n → Says kind m n
+    other h e p b = record { bools = λ _. b; binary = λ l i. absurd (omega arith); parts = λ f. never (sym e ∙ f); plain = λ _. p }
+
+    value : 17 ≤ kind → hasParts kind ≡ false → (20 ≤ kind → kind < 28 → Binary kind (field 1) (field 2) n) → Plain n → Says kind m n
+    value h e b p = record { bools = λ l. absurd (omega arith); binary = b; parts = λ f. never (sym e ∙ f); plain = λ _ _ _ _. p }
+
+    operator : (op : Operator) → 17 ≤ kind → hasParts kind ≡ false → n ≡ N.Binary op (field 1) (field 2) → ((s t : ℕ) → operatorType op s t ≡ kindType kind s t) → Plain n → Says kind m n
+    operator op h e i t p = value h e (λ _ _. record { operator = op; node = i; types = t }) p
 
   -- a line to a kind, 0 to 28
   lines : Lines Says 0 (nodes (field 1) (field 2) (field 3) (field 4) (field 5) (field 6) (field 7) (field 8) (field 9))
       (nodes (field 1) (field 2) (field 3) (field 4) (field 5) (field 6) (field 7) (field 8) (field 9))
-  unfolding nodes exprType exprOf operatorType kindType typeOf parsingOf
+  unfolding nodes exprType exprOf operatorType kindType typeOf parsingOf hasParts
   lines =
-      other-line 0 (λ _ env part. refl) (λ l i. absurd (omega arith)) (λ env. refl)
-      then other-line 1 (λ _ env part. refl) (λ l i. absurd (omega arith)) (λ env. refl)
-      then other-line 2 (λ _ env part. refl) (λ l i. absurd (omega arith)) (λ env. refl)
-      then parsing-line 3 (omega arith) (omega arith) (λ env part. refl)
-      then parsing-line 4 (omega arith) (omega arith) (λ env part. refl)
-      then parsing-line 5 (omega arith) (omega arith) (λ env part. refl)
-      then parsing-line 6 (omega arith) (omega arith) (λ env part. refl)
-      then parsing-line 7 (omega arith) (omega arith) (λ env part. refl)
-      then parsing-line 8 (omega arith) (omega arith) (λ env part. refl)
-      then parsing-line 9 (omega arith) (omega arith) (λ env part. refl)
-      then parsing-line 10 (omega arith) (omega arith) (λ env part. refl)
-      then other-line 11 (λ _ env part. refl) (λ l i. absurd (omega arith)) (λ env. refl)
-      then other-line 12 (λ _ env part. refl) (λ l i. absurd (omega arith)) (λ env. refl)
-      then other-line 13 (λ _ env part. refl) (λ l i. absurd (omega arith)) (λ env. refl)
-      then other-line 14 (λ _ env part. refl) (λ l i. absurd (omega arith)) (λ env. refl)
-      then other-line 15 (λ _ env part. refl) (λ l i. absurd (omega arith)) (λ env. refl)
-      then other-line 16 (λ _ env part. refl) (λ l i. absurd (omega arith)) (λ env. refl)
-      then other-line 17 (λ l. absurd (omega arith)) (λ l i. absurd (omega arith)) (λ env. refl)
-      then other-line 18 (λ l. absurd (omega arith)) (λ l i. absurd (omega arith)) (λ env. refl)
-      then other-line 19 (λ l. absurd (omega arith)) (λ l i. absurd (omega arith)) (λ env. refl)
-      then other-line 20 (λ l. absurd (omega arith)) (λ l i. record { operator = Calculate Add; node = refl; types = λ s t. refl }) (λ env. refl)
-      then other-line 21 (λ l. absurd (omega arith)) (λ l i. record { operator = Calculate Subtract; node = refl; types = λ s t. refl }) (λ env. refl)
-      then other-line 22 (λ l. absurd (omega arith)) (λ l i. record { operator = Calculate Multiply; node = refl; types = λ s t. refl }) (λ env. refl)
-      then other-line 23 (λ l. absurd (omega arith)) (λ l i. record { operator = Calculate Divide; node = refl; types = λ s t. refl }) (λ env. refl)
-      then other-line 24 (λ l. absurd (omega arith)) (λ l i. record { operator = Equal; node = refl; types = λ s t. refl }) (λ env. refl)
-      then other-line 25 (λ l. absurd (omega arith)) (λ l i. record { operator = Greater; node = refl; types = λ s t. refl }) (λ env. refl)
-      then other-line 26 (λ l. absurd (omega arith)) (λ l i. record { operator = And; node = refl; types = λ s t. refl }) (λ env. refl)
-      then other-line 27 (λ l. absurd (omega arith)) (λ l i. record { operator = Or; node = refl; types = λ s t. refl }) (λ env. refl)
-      then other-line 28 (λ l. absurd (omega arith)) (λ l i. absurd (omega arith)) (λ env. refl)
+      other 0 (omega arith) refl (λ _ _ _ env. refl) (λ env part. refl)
+      then other 1 (omega arith) refl (λ _ _ _ env. refl) (λ env part. refl)
+      then other 2 (omega arith) refl (λ _ _ _ env. refl) (λ env part. refl)
+      then composite 3 (omega arith) refl sequence (λ env part. refl)
+      then composite 4 (omega arith) refl choice (λ env part. refl)
+      then composite 5 (omega arith) refl repeat (λ env part. refl)
+      then composite 6 (omega arith) refl refusal (λ env part. refl)
+      then other 7 (omega arith) refl (λ out _ _. absurd (out refl)) (λ env part. refl)
+      then composite 8 (omega arith) refl bind (λ env part. refl)
+      then other 9 (omega arith) refl (λ _ out _. absurd (out refl)) (λ env part. refl)
+      then other 10 (omega arith) refl (λ _ _ out. absurd (out refl)) (λ env part. refl)
+      then other 11 (omega arith) refl (λ _ _ _ env. refl) (λ env part. refl)
+      then other 12 (omega arith) refl (λ _ _ _ env. refl) (λ env part. refl)
+      then other 13 (omega arith) refl (λ _ _ _ env. refl) (λ env part. refl)
+      then other 14 (omega arith) refl (λ _ _ _ env. refl) (λ env part. refl)
+      then other 15 (omega arith) refl (λ _ _ _ env. refl) (λ env part. refl)
+      then other 16 (omega arith) refl (λ _ _ _ env. refl) (λ env part. refl)
+      then value 17 (omega arith) refl (λ l i. absurd (omega arith)) (λ env. refl)
+      then value 18 (omega arith) refl (λ l i. absurd (omega arith)) (λ env. refl)
+      then value 19 (omega arith) refl (λ l i. absurd (omega arith)) (λ env. refl)
+      then operator 20 (Calculate Add) (omega arith) refl refl (λ s t. refl) (λ env. refl)
+      then operator 21 (Calculate Subtract) (omega arith) refl refl (λ s t. refl) (λ env. refl)
+      then operator 22 (Calculate Multiply) (omega arith) refl refl (λ s t. refl) (λ env. refl)
+      then operator 23 (Calculate Divide) (omega arith) refl refl (λ s t. refl) (λ env. refl)
+      then operator 24 Equal (omega arith) refl refl (λ s t. refl) (λ env. refl)
+      then operator 25 Greater (omega arith) refl refl (λ s t. refl) (λ env. refl)
+      then operator 26 And (omega arith) refl refl (λ s t. refl) (λ env. refl)
+      then operator 27 Or (omega arith) refl refl (λ s t. refl) (λ env. refl)
+      then value 28 (omega arith) refl (λ l i. absurd (omega arith)) (λ env. refl)
       then done
 
-  says : Says (kindAt words k) (nodeAt words k) (nodeAt words k)
-  unfolding nodeAt nodeFor nodes typeOf parsingOf
-  says =
-      line N.Unknown N.Unknown lines (λ i h. record { bools = λ l. absurd (omega arith); binary = λ l m. absurd (omega arith); plain = λ _ env. refl })
-      (kindAt words k) (kindAt words k) (omega arith)
+  -- past the last line
+  unknown : (i : ℕ) → 29 ≤ i → Says i N.Unknown N.Unknown
+  unfolding typeOf parsingOf hasParts
+  unknown i h = record {
+    bools = λ l. absurd (omega arith);
+    binary = λ l m. absurd (omega arith);
+    parts = λ e. never (rw (lt-ltb 2 i (omega arith), le-ltb i 7 (omega arith), ne-eqb i 8 (λ f. omega arith)) at e);
+    plain = λ _ _ _ _ env. refl;
+  }
 
-  pub no-operator : kindAt words k < 17 → (env : Env) (part : ℕ → Expr) → 1 ≡ exprType env (exprOf part k (nodeAt words k))
-  no-operator h = says .bools h
-
-  pub is-binary : 20 ≤ kindAt words k → kindAt words k < 28 → Binary (kindAt words k) (field 1) (field 2) (nodeAt words k)
-  is-binary l h = says .binary l h
-
-  -- empty, terminal, and every node that is no parsing node
-  pub is-plain : (3 ≤ kindAt words k → kindAt words k ≤ 10 → ⊥) → (env : Env) → some env ≡ leavesAs env (nodeAt words k)
-  is-plain out = says .plain out
-
-  pub is-sequence : kindAt words k ≡ 3 → nodeAt words k ≡ N.Sequence (field 1) (field 2)
+  pub says : Says (kindAt words k) (nodeAt words k) (nodeAt words k)
   unfolding nodeAt nodeFor nodes
-  is-sequence e = rw e
+  says = line N.Unknown N.Unknown lines unknown (kindAt words k) (kindAt words k) (omega arith)
 
-  pub is-choice : kindAt words k ≡ 4 → nodeAt words k ≡ N.Choice (field 1) (field 2)
-  unfolding nodeAt nodeFor nodes
-  is-choice e = rw e
-
-  pub is-repeat : kindAt words k ≡ 5 → nodeAt words k ≡ N.Repeat (field 1)
-  unfolding nodeAt nodeFor nodes
-  is-repeat e = rw e
-
-  pub is-not : kindAt words k ≡ 6 → nodeAt words k ≡ N.Not (field 1)
-  unfolding nodeAt nodeFor nodes
-  is-not e = rw e
-
-  pub is-call : kindAt words k ≡ 7 → nodeAt words k ≡ N.Call (field 1) (field 2) (field 3) (field 4) (field 5) (field 6) (field 7) (field 8) (field 9)
-  unfolding nodeAt nodeFor nodes
-  is-call e = rw e
-
-  pub is-bind : kindAt words k ≡ 8 → nodeAt words k ≡ N.Bind (field 1) (field 2)
-  unfolding nodeAt nodeFor nodes
-  is-bind e = rw e
-
-  pub is-update : kindAt words k ≡ 9 → nodeAt words k ≡ N.Update (field 1) (field 2)
-  unfolding nodeAt nodeFor nodes
-  is-update e = rw e
-
-  pub is-constraint : kindAt words k ≡ 10 → nodeAt words k ≡ N.Constraint (field 1)
-  unfolding nodeAt nodeFor nodes
-  is-constraint e = rw e
-
-  pub is-integer : kindAt words k ≡ 17 → nodeAt words k ≡ N.Integer (signed (field 1) (field 2))
-  unfolding nodeAt nodeFor nodes
-  is-integer e = rw e
-
-  pub is-text : kindAt words k ≡ 18 → nodeAt words k ≡ N.Text (field 1) (field 2)
-  unfolding nodeAt nodeFor nodes
-  is-text e = rw e
-
-  pub is-slot : kindAt words k ≡ 19 → nodeAt words k ≡ N.Slot (field 1)
-  unfolding nodeAt nodeFor nodes
-  is-slot e = rw e
-
-  pub is-negation : kindAt words k ≡ 28 → nodeAt words k ≡ N.Negation (field 1)
-  unfolding nodeAt nodeFor nodes
-  is-negation e = rw e
+  -- the node that a kind makes of the fields
+  pub is : {kind : ℕ} → kindAt words k ≡ kind → nodeAt words k ≡ nodeFor kind (field 1) (field 2) (field 3) (field 4) (field 5) (field 6) (field 7) (field 8) (field 9)
+  unfolding nodeAt
+  is e = rw e

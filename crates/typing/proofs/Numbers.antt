@@ -13,7 +13,7 @@ use lib.Seq.{set-getD, set-out}
 use borrow.Author.Tests.{eq-eqb, ne-eqb, eqb-true, eqb-false, lt-ltb, le-ltb}
 use Rattle.laws.specs.Same.{same}
 use Rattle.grammar.specs.Types.{assign}
-use Rattle.typing.specs.Slots.{slotTypes, typesIn, told}
+use Rattle.typing.specs.Slots.{slotTypes, typesIn, broken, told}
 
 -- a slot further is three bits further
 further : (s : ℕ) → 2 ^ (3 * suc s) ≡ 8 * 2 ^ (3 * s)
@@ -96,15 +96,15 @@ types-before k t n h =
 
 -- ════ Sixteen slots ════
 
-pub told-some : (n : ℕ) → n < 281474976710656 → told n ≡ some (typesIn n)
+pub told-some : (n : ℕ) → n < broken → told n ≡ some (typesIn n)
 unfolding told
-told-some n h = rw (lt-ltb n 281474976710656 h)
+told-some n h = rw (lt-ltb n broken h)
 
-pub told-none : (n : ℕ) → 281474976710656 ≤ n → told n ≡ none
+pub told-none : (n : ℕ) → broken ≤ n → told n ≡ none
 unfolding told
-told-none n h = rw (le-ltb n 281474976710656 h)
+told-none n h = rw (le-ltb n broken h)
 
-pub same-slots : (a b : ℕ) → a < 281474976710656 → b < 281474976710656 → same (typesIn a) (typesIn b) ≡ eqb a b
+pub same-slots : (a b : ℕ) → a < broken → b < broken → same (typesIn a) (typesIn b) ≡ eqb a b
 unfolding typesIn
 same-slots a b h i = types-same 16 a b h i
 
@@ -136,12 +136,12 @@ module _ (n s : ℕ) where
     unfolding assign
     assign-unset e = rw (eq-eqb (getD (typesIn n) s 0) 0 e)
 
-    pub set-in : t < 8 → getD (typesIn n) s 0 ≡ 0 → s < 16 → n < 281474976710656 → told (n + t * 2 ^ (3 * s)) ≡ some (set (typesIn n) s t)
+    pub set-in : t < 8 → getD (typesIn n) s 0 ≡ 0 → s < 16 → n < broken → told (n + t * 2 ^ (3 * s)) ≡ some (set (typesIn n) s t)
     unfolding typesIn
     set-in small unset h fits =
         told-some (n + t * 2 ^ (3 * s)) (types-room t small 16 n s h unset fits) ∙ ap some (types-set t small 16 n s h unset)
 
-    pub set-past : 16 ≤ s → n < 281474976710656 → told n ≡ some (set (typesIn n) s t)
+    pub set-past : 16 ≤ s → n < broken → told n ≡ some (set (typesIn n) s t)
     unfolding typesIn
     set-past h fits = told-some n fits ∙ ap some (sym (set-out (slotTypes 16 n) s t (let e = types-length 16 n in omega arith)))
 
@@ -149,6 +149,6 @@ module _ (n s : ℕ) where
 pub shifted : (t s : ℕ) → t < 8 → s < 16 → (t * 2 ^ (3 * s)) % 2 ^ 64 ≡ t * 2 ^ (3 * s)
 shifted t s small h = shl-exact 3 (3 * s) 64 small (omega arith)
 
-pub set-fits : (n s t : ℕ) → t < 8 → getD (typesIn n) s 0 ≡ 0 → s < 16 → n < 281474976710656 → n + t * 2 ^ (3 * s) < 2 ^ 64
+pub set-fits : (n s t : ℕ) → t < 8 → getD (typesIn n) s 0 ≡ 0 → s < 16 → n < broken → n + t * 2 ^ (3 * s) < 2 ^ 64
 unfolding typesIn
 set-fits n s t small unset h fits = let r = types-room t small 16 n s h unset fits in omega arith

@@ -3,7 +3,7 @@
 use mathlib.Core.Path.{_≡_, ap, _∙_}
 use mathlib.Core.List.{List, [], _∷_}
 use lib.ListN.{getD}
-use Prim.Native.Nat.{ℕ, _<_}
+use Prim.Native.Nat.{ℕ, _+_, _<_}
 use native.Mathlib.Omega.{arith}
 use Rattle.grammar.specs.declared.Node.{Node}
 use Rattle.grammar.specs.Words.{nodeAt, inheritedCount, returnedCount}
@@ -11,7 +11,7 @@ use Rattle.grammar.specs.Tree.{exprAt, exprOf, parsingAt, parsingOf}
 use Rattle.grammar.proofs.Facts.{SoundTable, Sizes, sizes, sound-of-form}
 use Rattle.grammar.proofs.Nodes.{NodeRight, node-holds}
 use Rattle.grammar.proofs.Decode.{expr-tree, parsing-tree}
-use Rattle.typing.specs.Checked.{Checked, CheckedNode, CheckedPlace, CheckedPlaces}
+use Rattle.typing.specs.Checked.{Checked, CheckedNode, Placed, CheckedPlace, CheckedPlaces}
 
 pub sound : {words : List ℕ} (table : Checked words) → SoundTable words (table .literals)
 sound {words} table = sound-of-form words (table .literals) (table .passed)
@@ -25,6 +25,14 @@ place p h = record { table = p .table; there = p .there h .0; fits = p .there h 
 
 pub nth : {words : List ℕ} {room n a b c d : ℕ} → CheckedPlaces words room n a b c d → (i : ℕ) → CheckedPlace words room n i (getD (a ∷ b ∷ c ∷ d ∷ []) i 0)
 nth p i = record { table = p .table; there = p .there i }
+
+-- a node that is due is one of the table's, and so are its parts, which have smaller numbers
+module _ {words : List ℕ} {room height k : ℕ} (p : Placed words room height k) where
+  pub placed-node : Checked words → CheckedNode words room k
+  placed-node table = record { table = table; there = omega arith; fits = omega arith }
+
+  pub placed-part : {a : ℕ} → a < k → Placed words room (height + 1) a
+  placed-part l = record { there = omega arith; fits = omega arith }
 
 module _ {words : List ℕ} {room k : ℕ} (node : CheckedNode words room k) where
   -- what a node's fields hold, by the node that it is

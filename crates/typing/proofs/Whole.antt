@@ -1,6 +1,6 @@
 -- Whole rules of a checked table. Assumes nothing.
 use mathlib.Core.Path.{_≡_, refl, sym, ap, _∙_}
-use mathlib.Core.Bool.{Bool, true, false, cond}
+use mathlib.Core.Bool.{Bool, true, false}
 use mathlib.Core.Option.{Option, none}
 use mathlib.Core.List.{List, [], _∷_}
 use Prim.Native.Nat.{ℕ, zero, suc, _+_, _*_, _<_, _≤_}
@@ -23,11 +23,11 @@ use Rattle.grammar.specs.Answer.{typeRules}
 use Rattle.grammar.proofs.Records.{four-places, rule-right}
 use Rattle.grammar.proofs.Decode.{rule-tree, grammar-length}
 use Rattle.typing.specs.Checked.{CheckedNode, CheckedPlaces, CheckedRule}
-use Rattle.typing.specs.Slots.{slotTypes, typesIn, told}
+use Rattle.typing.specs.Slots.{slotTypes, typesIn, broken, told}
 use Rattle.typing.specs.Places.{inheritedAt, inheritedTypes, returnedTyped}
 use Rattle.typing.proofs.Walks.{sound, sized}
 use Rattle.typing.proofs.Numbers.{types-before, told-some, told-none}
-use Rattle.typing.proofs.Leaves.{inherited-small}
+use Rattle.typing.proofs.Leaves.{picked, inherited-small}
 
 -- the slots that a rule starts with, one by one
 four-start : (n a b c d : ℕ) → inheritedAt n 0 a ∷ inheritedAt n 1 b ∷ inheritedAt n 2 c ∷ inheritedAt n 3 d ∷ 0 ∷ 0 ∷ 0 ∷ 0 ∷ 0 ∷ 0 ∷ 0 ∷ 0 ∷ 0 ∷ 0 ∷ 0 ∷ 0 ∷ []
@@ -51,10 +51,6 @@ four-types a b c d h i j k =
     ∙ ap (λ (l : List ℕ). a ∷ l) (types-before 14 b (c + 8 * d) i
     ∙ ap (λ (l : List ℕ). b ∷ l) (types-before 13 c d j
     ∙ ap (λ (l : List ℕ). c ∷ l) (ap (slotTypes 13) z ∙ types-before 12 d 0 k)))
-
-picked : (b : Bool) (t : ℕ) → (b ≡ true → t < 8) → cond b t 0 < 8
-picked true t h = h refl
-picked false t h = omega arith
 
 -- a type that is inherited, or none
 inherited-fits : (n i t : ℕ) → (i < n → t < 8) → inheritedAt n i t < 8
@@ -113,11 +109,11 @@ module _ {words : List ℕ} {r : ℕ} (rule : CheckedRule words r) where
     leaving : told after ≡ bodyLeaves
     leaving = f ∙ rw (s, e)
 
-    pub rule-broken : 281474976710656 ≤ after → false ≡ typedRule (grammarOf words) (ruleOf (grammarOf words) r)
+    pub rule-broken : broken ≤ after → false ≡ typedRule (grammarOf words) (ruleOf (grammarOf words) r)
     unfolding typedAfter
     rule-broken g = ap (typedAfter (ruleAt words r)) (sym (told-none after g) ∙ leaving) ∙ meaning
 
-    pub rule-kept : after < 281474976710656 → returnedTyped words (typesIn after) r ≡ typedRule (grammarOf words) (ruleOf (grammarOf words) r)
+    pub rule-kept : after < broken → returnedTyped words (typesIn after) r ≡ typedRule (grammarOf words) (ruleOf (grammarOf words) r)
     unfolding typedAfter returnedTyped ruleAt
     rule-kept g = ap (typedAfter (ruleAt words r)) (sym (told-some after g) ∙ leaving) ∙ meaning
 

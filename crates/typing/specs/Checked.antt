@@ -2,7 +2,7 @@
 use mathlib.Core.Path.{_≡_}
 use mathlib.Core.List.{List, [], _∷_}
 use lib.ListN.{getD}
-use Prim.Native.Nat.{ℕ, _<_}
+use Prim.Native.Nat.{ℕ, _+_, _<_}
 use Rattle.grammar.specs.declared.Verdict.the-variants.{Passed}
 use Rattle.grammar.specs.Words.{nodeCount, ruleCount, kindAt}
 use Rattle.grammar.specs.Form.{tableCheck}
@@ -22,6 +22,11 @@ pub record CheckedNode (words : List ℕ) (room k : ℕ) : Type 0 where
 pub record CheckedKind (words : List ℕ) (room k kind : ℕ) : Type 0 where
   pub node : CheckedNode words room k
   pub is : kind ≡ kindAt words k
+
+-- a node above `height` nodes at work, and so with room for its parts above it: each is at a height more and has a smaller number
+pub record Placed (words : List ℕ) (room height k : ℕ) : Type 0 where
+  pub there : height + k < nodeCount words
+  pub fits : height + k < room
 
 -- place i of four, of which n name such a node
 pub record CheckedPlace (words : List ℕ) (room n i k : ℕ) : Type 0 where

@@ -1,6 +1,5 @@
 pub mod Checked
 pub mod Slots
-pub mod Pile
-pub mod Terms
+pub mod Expressions
 pub mod Walk
 pub mod Places

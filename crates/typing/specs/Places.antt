@@ -35,6 +35,7 @@ receivedAll words env k r =
 unfoldable pub inheritedAt : (n i t : ℕ) → ℕ
 inheritedAt n i t = cond (ltb i n) t 0
 
+-- the types that rule r inherits
 abbrev pub inheritedTypes : (words : List ℕ) (r : ℕ) → List ℕ
 inheritedTypes words r =
     four (inheritedCount words r) (ruleWord words r 2) (ruleWord words r 3) (ruleWord words r 4) (ruleWord words r 5)

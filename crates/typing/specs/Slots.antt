@@ -11,9 +11,14 @@ unfoldable pub slotTypes : (k n : ℕ) → List ℕ
 slotTypes zero n = []
 slotTypes (suc k) n = n % 8 ∷ slotTypes k (n / 8)
 
+-- the types of a rule's sixteen slots
 unfoldable pub typesIn : ℕ → Env
 typesIn n = slotTypes 16 n
 
--- what a node leaves, as code has it: the slots' slotTypes, or a number that has no room in sixteen slots, where a rule is broken
+-- the first number that has no room in sixteen slots
+abbrev pub broken : ℕ
+broken = 281474976710656
+
+-- what a node leaves, as code has it: the types of the slots, or a number from `broken` on, where a rule is broken
 unfoldable pub told : ℕ → Option Env
-told n = cond (ltb n 281474976710656) (some (typesIn n)) none
+told n = cond (ltb n broken) (some (typesIn n)) none

@@ -1,8 +1,8 @@
 // The type check (document 01, 'Type rules'): answers 1 to 5, or passed. A table that passes never gets STUCK.
+mod expressions;
 mod parsing;
 mod rules;
 mod slots;
-mod terms;
 
 ghost use mathlib.Core.Path.{_≡_};
 ghost use Rattle.grammar.specs.Answer.{typeCheck};

@@ -8,10 +8,10 @@ ghost use Rattle.grammar.specs.Types.{startEnv, typedRule};
 ghost use Rattle.grammar.specs.Answer.{typeRules};
 ghost use Rattle.typing.specs.Checked.{Checked, CheckedRule};
 ghost use Rattle.typing.specs.Places.{inheritedAt, inheritedTypes, returnedTyped};
-ghost use Rattle.typing.specs.Slots.{typesIn};
+ghost use Rattle.typing.specs.Slots.{broken, typesIn};
+use crate::expressions::places_typed;
 use crate::parsing::leaves;
 use crate::slots::BROKEN;
-use crate::terms::places_typed;
 use grammar::Verdict;
 use table::records::body;
 use table::records::inherited_count;
@@ -35,7 +35,7 @@ fn inherited_slot(words: &[u16], r: u16, i: u16) -> u16
 // "A rule starts with its inherited slots set, others unset."
 fn start_slots(words: &[u16], r: u16) -> u64
     requires { ⌜ CheckedRule (now words) r ⌝ }
-    ensures { λ slots. ⌜ (slots < 281474976710656) × (typesIn slots ≡ startEnv (inheritedTypes (now (words .entry)) r)) ⌝ }
+    ensures { λ slots. ⌜ (slots < broken) × (typesIn slots ≡ startEnv (inheritedTypes (now (words .entry)) r)) ⌝ }
 {
     let a = inherited_slot(words, r, 0);
     let b = inherited_slot(words, r, 1);
@@ -61,6 +61,7 @@ fn returned_typed(words: &[u16], pile: &mut [u64], slots: u64, r: u16) -> bool
     places_typed(words, pile, slots, n, a, b, c, d, t, u, v, w)
 }
 
+// Rule r keeps the type rules.
 fn rule_typed(words: &[u16], pile: &mut [u64], r: u16) -> bool
     requires { ⌜ CheckedRule (now words) r × (length (now pile) ≡ 1024) ⌝ }
     ensures { λ x. ⌜ x ≡ typedRule (grammarOf (now (words .entry))) (ruleOf (grammarOf (now (words .entry))) r) ⌝ }

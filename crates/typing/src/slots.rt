@@ -4,7 +4,7 @@ ghost use Prim.Native.Nat.{_<_};
 ghost use mathlib.Core.Option.{some};
 ghost use lib.ListN.{getD, set};
 ghost use Rattle.grammar.specs.Types.{assign};
-ghost use Rattle.typing.specs.Slots.{told, typesIn};
+ghost use Rattle.typing.specs.Slots.{broken, told, typesIn};
 
 // The first number that has no room in sixteen slots: it stands for a broken rule.
 pub(crate) const BROKEN: u64 = 281474976710656;
@@ -22,7 +22,7 @@ pub(crate) fn slot_type(slots: u64, s: u16) -> u16
 
 // An unset slot takes a type.
 fn with_type(slots: u64, s: u16, t: u16) -> u64
-    requires { ⌜ (slots < 281474976710656) × (t < 8) × (getD (typesIn slots) s 0 ≡ 0) ⌝ }
+    requires { ⌜ (slots < broken) × (t < 8) × (getD (typesIn slots) s 0 ≡ 0) ⌝ }
     ensures { λ r. ⌜ told r ≡ some (set (typesIn slots) s t) ⌝ }
 {
     if s < 16 {
@@ -34,7 +34,7 @@ fn with_type(slots: u64, s: u16, t: u16) -> u64
 
 // "an unset slot takes the type; a set one must have it already"
 pub(crate) fn assigned(slots: u64, s: u16, t: u16) -> u64
-    requires { ⌜ (slots < 281474976710656) × (t < 8) ⌝ }
+    requires { ⌜ (slots < broken) × (t < 8) ⌝ }
     ensures { λ r. ⌜ told r ≡ assign (typesIn slots) s t ⌝ }
 {
     let old = slot_type(slots, s);

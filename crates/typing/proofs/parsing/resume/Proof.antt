@@ -1,101 +1,89 @@
+use Rattle.typing.proofs.Walked.{onTop, secondStep, armStep, doneStep}
+use Rattle.typing.specs.Walk.{resumed}
 use native.Mathlib.Omega.{arith}
-use mathlib.Core.Path.{refl}
-use Rattle.typing.proofs.Walked.{secondStep, armStep, keptStep, changedStep, boundStep}
 use borrow.Author.Needs.{needs}
 use Rattle.typing.proofs.parsing.resume.Statement.{statement}
 use Rattle.typing.proofs.parsing.resume.Tie as tie
 
--- src/parsing.rt:214:16
 sub-last : tie.Need-sub-last
 sub-last c = search needs
 
--- src/parsing.rt:215:18
-cast-f : tie.Need-cast-f
-cast-f c = search needs
-
--- src/parsing.rt:215:13
 mul-f : tie.Need-mul-f
 mul-f c = search needs
 
--- src/parsing.rt:215:13
 slice-read-f : tie.Need-slice-read-f
 slice-read-f c = search needs
 
--- src/parsing.rt:216:16
 cast-part : tie.Need-cast-part
 cast-part c = search needs
 
--- src/parsing.rt:220:9
-returns : tie.Need-returns
-returns c = secondStep (c .before .before .before .before .pre .0) (c .before .before .before .before .pre .1) (c .before .before .before .before .pre .2) (c .before .before .before .before .pre .3) refl (c .if1 .taken)
+due-requires : tie.Need-due-requires
+due-requires c κs = search needs
 
--- src/parsing.rt:228:31
+returns : tie.Need-returns
+returns c = let s = c .before .before .before .before .before in rw (c .due .ensures) (secondStep (s .pre .0) (s .pre .1) (s .pre .2) (s .pre .3) (c .before .if1 .taken))
+
+at-work-requires : tie.Need-at-work-requires
+at-work-requires c κs = search needs
+
 mul-pile : tie.Need-mul-pile
 mul-pile c = search needs
 
--- src/parsing.rt:228:31
-add-pile : tie.Need-add-pile
-add-pile c = search needs
-
--- src/parsing.rt:228:14
-cast-pile : tie.Need-cast-pile
-cast-pile c = search needs
-
--- src/parsing.rt:228:9
-mul-pile-2 : tie.Need-mul-pile-2
-mul-pile-2 c = search needs
-
--- src/parsing.rt:228:9
 slice-write-pile : tie.Need-slice-write-pile
 slice-write-pile c = search needs
 
--- src/parsing.rt:229:9
+due-requires-2 : tie.Need-due-requires-2
+due-requires-2 c κs = search needs
+
 same-length : tie.Need-same-length
 same-length c = search needs
 
--- src/parsing.rt:229:9
 returns-2 : tie.Need-returns-2
-returns-2 c = armStep (c .before .before .before .before .before .pre .0) (c .before .before .before .before .before .pre .1) (c .before .before .before .before .before .pre .2) (c .before .before .before .before .before .pre .3) refl refl (c .if2 .taken)
+returns-2 c = let s = c .before .before .before .before .before .before .before in rw (c .due2 .ensures, c .before .at-work .ensures) (armStep (s .pre .0) (s .pre .1) (s .pre .2) (s .pre .3) (c .before .before .if2 .taken))
 
--- src/parsing.rt:238:13
+unchanged-requires : tie.Need-unchanged-requires
+unchanged-requires c κs = let s = c .before .before .before .before .before .before in (onTop (s .pre .0) (s .pre .1) (s .pre .2) (s .pre .3) .keeps, s .pre .3)
+
+found-requires : tie.Need-found-requires
+found-requires c κs = search needs
+
 returns-3 : tie.Need-returns-3
-returns-3 c = keptStep (c .before .before .before .before .before .before .before .pre .0) (c .before .before .before .before .before .before .before .pre .1) (c .before .before .before .before .before .before .before .pre .2) (c .before .before .before .before .before .before .before .pre .3) refl (c .before .if3 .taken) (c .if4 .taken)
+unfolding resumed
+returns-3 c = let s = c .before .before .before .before .before .before .before .before in rw (c .found .ensures) (doneStep (s .pre .0) (s .pre .1) (s .pre .2) (s .pre .3) {tag = 2} (c .before .before .if3 .taken) (c .before .unchanged .ensures))
 
--- src/parsing.rt:245:9
-returns-4 : tie.Need-returns-4
-returns-4 c = changedStep (c .before .before .before .before .before .before .before .pre .0) (c .before .before .before .before .before .before .before .pre .1) (c .before .before .before .before .before .before .before .pre .2) (c .before .before .before .before .before .before .before .pre .3) refl (c .before .if3 .taken) (c .if4 .left)
-
--- src/parsing.rt:256:32
 cast-assigned : tie.Need-cast-assigned
 cast-assigned c = search needs
 
--- src/parsing.rt:256:16
 assigned-requires : tie.Need-assigned-requires
 assigned-requires c κs = search needs
 
--- src/parsing.rt:208:1
-returns-5 : tie.Need-returns-5
-returns-5 c = boundStep (c .before .before .before .before .before .before .before .pre .0) (c .before .before .before .before .before .before .before .pre .1) (c .before .before .before .before .before .before .before .pre .2) (c .before .before .before .before .before .before .before .pre .3) (omega (arith, c .before .before .before .if1 .left, c .before .before .if2 .left, c .before .if3 .left)) (c .assigned .ensures)
+found-requires-2 : tie.Need-found-requires-2
+found-requires-2 c κs = search needs
+
+returns-4 : tie.Need-returns-4
+unfolding resumed
+returns-4 c = let s = c .before .before .before .before .before .before .before .before in rw (c .found2 .ensures) (doneStep (s .pre .0) (s .pre .1) (s .pre .2) (s .pre .3) {tag = 3} (omega (arith, onTop (s .pre .0) (s .pre .1) (s .pre .2) (s .pre .3) .few, c .before .before .before .before .if1 .left, c .before .before .before .if2 .left, c .before .before .if3 .left)) (c .before .assigned .ensures))
 
 pub resume-spec : {M : Type 1} → statement M
 resume-spec =
     tie.close
     (tie.spec
     sub-last
-    cast-f
     mul-f
     slice-read-f
     cast-part
+    due-requires
     returns
+    at-work-requires
     mul-pile
-    add-pile
-    cast-pile
-    mul-pile-2
     slice-write-pile
+    due-requires-2
     same-length
     returns-2
+    unchanged-requires
+    found-requires
     returns-3
-    returns-4
     cast-assigned
     assigned-requires
-    returns-5)
+    found-requires-2
+    returns-4)

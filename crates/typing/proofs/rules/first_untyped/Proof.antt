@@ -25,7 +25,7 @@ loop-holds : tie.Need-loop-holds Inv-loop μ-loop
 loop-holds c = (omega arith, refl, λ i l. absurd (omega arith))
 
 rule-typed-requires : tie.Need-rule-typed-requires Inv-loop μ-loop
-rule-typed-requires c κs = (record { table = c .before .before .before .before .before .before .pre .0; there = omega (arith, c .before .before .before .rule-count .ensures) }, c .before .before .loop .inv .1 ∙ c .before .before .before .before .before .before .pre .1)
+rule-typed-requires c κs = let s = c .before .before .before .before .before .before in (record { table = s .pre .0; there = omega (arith, c .before .before .before .rule-count .ensures) }, c .before .before .loop .inv .1 ∙ s .pre .1)
 
 same-length : tie.Need-same-length Inv-loop μ-loop
 same-length c = c .before .before .before .rule-typed .kept .1 .0 ∙ c .before .before .before .before .before .before .loop .inv .1
@@ -40,7 +40,7 @@ loop-less : tie.Need-loop-less Inv-loop μ-loop
 loop-less c = omega arith
 
 loop-again : tie.Need-loop-again Inv-loop μ-loop
-loop-again c = (omega arith, c .before .before .before .rule-typed .kept .1 .0 ∙ c .before .before .before .before .before .before .loop .inv .1, below-more (λ (i : ℕ). typedRule (grammarOf (c .before .before .before .before .before .before .before .before .before .before .args .words .now)) (ruleOf (grammarOf (c .before .before .before .before .before .before .before .before .before .before .args .words .now)) i) ≡ true) (c .before .before .before .before .before .before .loop .r) (c .before .before .before .before .before .before .loop .inv .2) (sym (c .before .before .before .rule-typed .ensures) ∙ not-false (c .before .before .before .rule-typed .result) (c .if1 .left)))
+loop-again c = let s = c .before .before .before .before .before .before .before .before .before .before in (omega arith, c .before .before .before .rule-typed .kept .1 .0 ∙ c .before .before .before .before .before .before .loop .inv .1, below-more (λ (i : ℕ). typedRule (grammarOf (s .args .words .now)) (ruleOf (grammarOf (s .args .words .now)) i) ≡ true) (c .before .before .before .before .before .before .loop .r) (c .before .before .before .before .before .before .loop .inv .2) (sym (c .before .before .before .rule-typed .ensures) ∙ not-false (c .before .before .before .rule-typed .result) (c .if1 .left)))
 
 same-length-2 : tie.Need-same-length-2 Inv-loop μ-loop
 same-length-2 c = c .before .loop .inv .1

@@ -4,20 +4,16 @@ use borrow.Author.Needs.{needs}
 use Rattle.typing.proofs.rules.inherited_slot.Statement.{statement}
 use Rattle.typing.proofs.rules.inherited_slot.Tie as tie
 
--- src/rules.rt:21:12
 inherited-count-requires : tie.Need-inherited-count-requires
 inherited-count-requires c κs = search needs
 
--- src/rules.rt:22:9
 inherited-type-requires : tie.Need-inherited-type-requires
 inherited-type-requires c κs = search needs
 
--- src/rules.rt:18:1
 returns : tie.Need-returns
 unfolding inheritedAt
 returns c = rw (← c .before .before .inherited-count .ensures, lt-ltb (c .before .before .before .before .args .i) (c .before .before .inherited-count .result) (c .before .if1 .taken)) (c .inherited-type .ensures)
 
--- src/rules.rt:18:1
 returns-2 : tie.Need-returns-2
 unfolding inheritedAt
 returns-2 c = rw (← c .before .inherited-count .ensures, le-ltb (c .before .before .before .args .i) (c .before .inherited-count .result) (c .if1 .left))

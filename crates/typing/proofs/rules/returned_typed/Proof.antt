@@ -6,51 +6,39 @@ use borrow.Author.Needs.{needs}
 use Rattle.typing.proofs.rules.returned_typed.Statement.{statement}
 use Rattle.typing.proofs.rules.returned_typed.Tie as tie
 
--- src/rules.rt:52:9
 returned-count-requires : tie.Need-returned-count-requires
 returned-count-requires c κs = search needs
 
--- src/rules.rt:53:9
 returned-node-requires : tie.Need-returned-node-requires
 returned-node-requires c κs = search needs
 
--- src/rules.rt:54:9
 returned-node-requires-2 : tie.Need-returned-node-requires-2
 returned-node-requires-2 c κs = search needs
 
--- src/rules.rt:55:9
 returned-node-requires-3 : tie.Need-returned-node-requires-3
 returned-node-requires-3 c κs = search needs
 
--- src/rules.rt:56:9
 returned-node-requires-4 : tie.Need-returned-node-requires-4
 returned-node-requires-4 c κs = search needs
 
--- src/rules.rt:57:9
 returned-type-requires : tie.Need-returned-type-requires
 returned-type-requires c κs = search needs
 
--- src/rules.rt:58:9
 returned-type-requires-2 : tie.Need-returned-type-requires-2
 returned-type-requires-2 c κs = search needs
 
--- src/rules.rt:59:9
 returned-type-requires-3 : tie.Need-returned-type-requires-3
 returned-type-requires-3 c κs = search needs
 
--- src/rules.rt:60:9
 returned-type-requires-4 : tie.Need-returned-type-requires-4
 returned-type-requires-4 c κs = search needs
 
--- src/rules.rt:61:5
 places-typed-requires : tie.Need-places-typed-requires
-places-typed-requires c κs = longer (c .before .before .before .before .before .before .before .before .before .before .before .before .pre .1) (returned-there (c .before .before .before .before .before .before .before .before .before .before .before .before .pre .0) (c .before .before .before .before .before .before .before .before .before .returned-count .ensures) (c .before .before .before .before .before .before .before .before .returned-node .ensures) (c .before .before .before .before .before .before .before .returned-node2 .ensures) (c .before .before .before .before .before .before .returned-node3 .ensures) (c .before .before .before .before .before .returned-node4 .ensures))
+places-typed-requires c κs = let s = c .before .before .before .before .before .before .before .before .before .before .before .before in longer (s .pre .1) (returned-there (s .pre .0) (c .before .before .before .before .before .before .before .before .before .returned-count .ensures) (c .before .before .before .before .before .before .before .before .returned-node .ensures) (c .before .before .before .before .before .before .before .returned-node2 .ensures) (c .before .before .before .before .before .before .returned-node3 .ensures) (c .before .before .before .before .before .returned-node4 .ensures))
 
--- src/rules.rt:48:1
 same-length : tie.Need-same-length
 same-length c = search needs
 
--- src/rules.rt:48:1
 returns : tie.Need-returns
 unfolding returnedTyped
 returns c = c .before .before .places-typed .ensures ∙ rw (c .before .before .before .before .before .before .before .before .before .before .before .before .returned-count .ensures, c .before .before .before .before .before .before .before .before .before .before .before .returned-node .ensures, c .before .before .before .before .before .before .before .before .before .before .returned-node2 .ensures, c .before .before .before .before .before .before .before .before .before .returned-node3 .ensures, c .before .before .before .before .before .before .before .before .returned-node4 .ensures, c .before .before .before .before .before .before .before .returned-type .ensures, c .before .before .before .before .before .before .returned-type2 .ensures, c .before .before .before .before .before .returned-type3 .ensures, c .before .before .before .before .returned-type4 .ensures)

@@ -4,35 +4,27 @@ use borrow.Author.Needs.{needs}
 use Rattle.typing.proofs.rules.rule_typed.Statement.{statement}
 use Rattle.typing.proofs.rules.rule_typed.Tie as tie
 
--- src/rules.rt:68:9
 start-slots-requires : tie.Need-start-slots-requires
 start-slots-requires c κs = search needs
 
--- src/rules.rt:69:9
 body-requires : tie.Need-body-requires
 body-requires c κs = search needs
 
--- src/rules.rt:70:9
 leaves-requires : tie.Need-leaves-requires
-leaves-requires c κs = (body-there (c .before .before .before .before .before .pre .0) (c .before .body .ensures), c .before .before .before .before .before .pre .1, c .before .before .start-slots .ensures .0)
+leaves-requires c κs = let s = c .before .before .before .before .before in (rw (s .pre .1) (body-there (s .pre .0) (c .before .body .ensures)), c .before .before .start-slots .ensures .0)
 
--- src/rules.rt:72:9
 same-length : tie.Need-same-length
 same-length c = search needs
 
--- src/rules.rt:72:9
 returns : tie.Need-returns
 returns c = rule-broken (c .before .before .before .before .before .before .before .before .before .pre .0) (c .before .before .before .before .before .before .start-slots .result) (c .before .before .before .leaves .result) (c .before .before .before .before .before .before .start-slots .ensures .1) (c .before .before .before .before .before .body .ensures) (c .before .before .before .leaves .ensures) (c .if1 .taken)
 
--- src/rules.rt:74:5
 returned-typed-requires : tie.Need-returned-typed-requires
 returned-typed-requires c κs = search needs
 
--- src/rules.rt:64:1
 same-length-2 : tie.Need-same-length-2
 same-length-2 c = search needs
 
--- src/rules.rt:64:1
 returns-2 : tie.Need-returns-2
 returns-2 c = c .before .before .returned-typed .ensures ∙ rule-kept (c .before .before .before .before .before .before .before .before .before .before .before .before .before .pre .0) (c .before .before .before .before .before .before .before .before .before .before .start-slots .result) (c .before .before .before .before .before .before .before .leaves .result) (c .before .before .before .before .before .before .before .before .before .before .start-slots .ensures .1) (c .before .before .before .before .before .before .before .before .before .body .ensures) (c .before .before .before .before .before .before .before .leaves .ensures) (c .before .before .before .before .if1 .left)
 

@@ -4,63 +4,48 @@ use borrow.Author.Needs.{needs}
 use Rattle.typing.proofs.rules.start_slots.Statement.{statement}
 use Rattle.typing.proofs.rules.start_slots.Tie as tie
 
--- src/rules.rt:40:9
 inherited-slot-requires : tie.Need-inherited-slot-requires
 inherited-slot-requires c κs = search needs
 
--- src/rules.rt:41:9
 inherited-slot-requires-2 : tie.Need-inherited-slot-requires-2
 inherited-slot-requires-2 c κs = search needs
 
--- src/rules.rt:42:9
 inherited-slot-requires-3 : tie.Need-inherited-slot-requires-3
 inherited-slot-requires-3 c κs = search needs
 
--- src/rules.rt:43:9
 inherited-slot-requires-4 : tie.Need-inherited-slot-requires-4
 inherited-slot-requires-4 c κs = search needs
 
--- src/rules.rt:44:5
 cast-result : tie.Need-cast-result
 cast-result c = search needs
 
--- src/rules.rt:44:21
 cast-result-2 : tie.Need-cast-result-2
 cast-result-2 c = search needs
 
--- src/rules.rt:44:37
 cast-result-3 : tie.Need-cast-result-3
 cast-result-3 c = search needs
 
--- src/rules.rt:44:52
 cast-result-4 : tie.Need-cast-result-4
 cast-result-4 c = search needs
 
--- src/rules.rt:44:48
 mul-result : tie.Need-mul-result
 mul-result c = search needs
 
--- src/rules.rt:44:37
 add-result : tie.Need-add-result
 add-result c = search needs
 
--- src/rules.rt:44:32
 mul-result-2 : tie.Need-mul-result-2
 mul-result-2 c = search needs
 
--- src/rules.rt:44:21
 add-result-2 : tie.Need-add-result-2
 add-result-2 c = search needs
 
--- src/rules.rt:44:16
 mul-result-3 : tie.Need-mul-result-3
 mul-result-3 c = search needs
 
--- src/rules.rt:44:5
 add-result-3 : tie.Need-add-result-3
 add-result-3 c = search needs
 
--- src/rules.rt:36:1
 returns : tie.Need-returns
 returns c = (let s = inherited-all (c .before .before .before .before .before .pre) (c .before .before .before .inherited-slot .ensures) (c .before .before .inherited-slot2 .ensures) (c .before .inherited-slot3 .ensures) (c .inherited-slot4 .ensures) in omega arith, starts (c .before .before .before .before .before .pre) (c .before .before .before .inherited-slot .ensures) (c .before .before .inherited-slot2 .ensures) (c .before .inherited-slot3 .ensures) (c .inherited-slot4 .ensures))
 

@@ -3,23 +3,18 @@ use borrow.Author.Needs.{needs}
 use Rattle.typing.proofs.slots.slot_type.Statement.{statement}
 use Rattle.typing.proofs.slots.slot_type.Tie as tie
 
--- src/slots.rt:17:21
 mul-result : tie.Need-mul-result
 mul-result c = search needs
 
--- src/slots.rt:17:11
 shr-result : tie.Need-shr-result
 shr-result c = search needs
 
--- src/slots.rt:17:9
 cast-result : tie.Need-cast-result
 cast-result c = search needs
 
--- src/slots.rt:13:1
 returns : tie.Need-returns
 returns c = slot-in (c .before .args .slots) (c .before .args .s) (c .if1 .taken)
 
--- src/slots.rt:13:1
 returns-2 : tie.Need-returns-2
 returns-2 c = slot-past (c .before .args .slots) (c .before .args .s) (c .if1 .left)
 

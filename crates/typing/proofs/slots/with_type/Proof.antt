@@ -3,23 +3,18 @@ use borrow.Author.Needs.{needs}
 use Rattle.typing.proofs.slots.with_type.Statement.{statement}
 use Rattle.typing.proofs.slots.with_type.Tie as tie
 
--- src/slots.rt:29:33
 mul-result : tie.Need-mul-result
 mul-result c = search needs
 
--- src/slots.rt:29:18
 shl-result : tie.Need-shl-result
 shl-result c = search needs
 
--- src/slots.rt:29:9
 add-result : tie.Need-add-result
 add-result c = rw (shifted (c .before .args .t) (c .before .args .s) (c .before .pre .1) (c .if1 .taken)) (record { fits = set-fits (c .before .args .slots) (c .before .args .s) (c .before .args .t) (c .before .pre .1) (c .before .pre .2) (c .if1 .taken) (c .before .pre .0) })
 
--- src/slots.rt:24:1
 returns : tie.Need-returns
 returns c = rw (shifted (c .before .args .t) (c .before .args .s) (c .before .pre .1) (c .if1 .taken)) (set-in (c .before .args .slots) (c .before .args .s) (c .before .args .t) (c .before .pre .1) (c .before .pre .2) (c .if1 .taken) (c .before .pre .0))
 
--- src/slots.rt:24:1
 returns-2 : tie.Need-returns-2
 returns-2 c = set-past (c .before .args .slots) (c .before .args .s) (c .before .args .t) (c .if1 .left) (c .before .pre .0)
 

@@ -10,7 +10,7 @@ ghost use Rattle.grammar.specs.Types.{exprType, has, haveAll, ifBoth, operatorT
 ghost use Rattle.typing.specs.Checked.{CheckedKind, CheckedNode, CheckedPlace, CheckedPlaces};
 ghost use Rattle.typing.specs.Places.{placeTyped};
 ghost use Rattle.typing.specs.Slots.{typesIn};
-ghost use Rattle.typing.specs.Terms.{JudgedOn, Judges, kindType};
+ghost use Rattle.typing.specs.Expressions.{atWork, JudgedOn, Judges, kindType, nodeDue, typeFound};
 use crate::slots::slot_type;
 use table::records::kind_at;
 use table::records::node_word;
@@ -58,13 +58,6 @@ fn operator_type(kind: u64, s: u16, t: u16) -> u16
     both(1, 1, s, t)
 }
 
-// A walk over an expression: whether a node is due, that node or else the type that was found, and how many operators are at work.
-pub struct Judging {
-    pub down: bool,
-    pub at: u16,
-    pub top: u16,
-}
-
 // The type of node k, which is no operator.
 fn leaf_type(words: &[u16], slots: u64, kind: u16, k: u16) -> u16
     requires { ⌜ CheckedKind (now words) (suc k) k kind × (kind < 20) ⌝ }
@@ -78,63 +71,79 @@ fn leaf_type(words: &[u16], slots: u64, kind: u16, k: u16) -> u16
     }
 }
 
-// A node is due.
+// An operator at work as one number: its kind and its right operand, while the left one is judged; then its kind and 32, and the left one's type.
+fn at_work(code: u64, number: u16) -> u64
+    requires { ⌜ code < 65536 ⌝ }
+    ensures { λ r. ⌜ r ≡ atWork code number ⌝ }
+{
+    code * 65536 + number as u64
+}
+
+// A walk over an expression: whether a node is due, that node or else the type that was found, and how many operators are at work.
+pub struct Judging {
+    pub due: bool,
+    pub at: u16,
+    pub top: usize,
+}
+
+// Node k is due.
+fn due(k: u16, top: usize) -> Judging
+    ensures { λ r. ⌜ r ≡ nodeDue k top ⌝ }
+{
+    Judging {
+        due: true,
+        at: k,
+        top: top,
+    }
+}
+
+// The type t was found.
+fn found(t: u16, top: usize) -> Judging
+    ensures { λ r. ⌜ r ≡ typeFound t top ⌝ }
+{
+    Judging {
+        due: false,
+        at: t,
+        top: top,
+    }
+}
+
+// A node is due: an operator goes to work, and its first operand is due.
 fn judge(words: &[u16], pile: &mut [u64], slots: u64, w: Judging) -> Judging
-    requires { ⌜ Judges (now words) (now pile) w × (w .down ≡ true) ⌝ }
+    requires { ⌜ Judges (now words) (now pile) w × (w .due ≡ true) ⌝ }
     ensures { λ r. ⌜ JudgedOn (now (words .entry)) slots (now (pile .entry)) w (now (pile .exit)) r ⌝ }
 {
     let k = w.at;
     let top = w.top;
     let kind = kind_at(words, k);
     if kind < 20 {
-        let t = leaf_type(words, slots, kind, k);
-        return Judging {
-            down: false,
-            at: t,
-            top: top,
-        };
+        return found(leaf_type(words, slots, kind, k), top);
     }
     let first = node_word(words, k, 1);
     let second = node_word(words, k, 2);
-    pile[top as usize] = kind as u64 * 65536 + second as u64;
-    Judging {
-        down: true,
-        at: first,
-        top: top + 1,
-    }
+    pile[top] = at_work(kind as u64, second);
+    due(first, top + 1)
 }
 
-// A type was found, and goes to the operator on top.
-fn found(words: &[u16], pile: &mut [u64], slots: u64, w: Judging) -> Judging
-    requires { ⌜ Judges (now words) (now pile) w × (w .down ≡ false) × (0 < w .top) ⌝ }
+// A type was found, and goes to the topmost operator at work. (`words` and `slots` are there for the contract alone.)
+fn apply(words: &[u16], pile: &mut [u64], slots: u64, w: Judging) -> Judging
+    requires { ⌜ Judges (now words) (now pile) w × (w .due ≡ false) × (0 < w .top) ⌝ }
     ensures { λ r. ⌜ JudgedOn (now (words .entry)) slots (now (pile .entry)) w (now (pile .exit)) r ⌝ }
 {
     let t = w.at;
     let top = w.top;
     let last = top - 1;
-    let f = pile[last as usize];
+    let f = pile[last];
     let code = f / 65536;
     let number = (f % 65536) as u16;
     if code < 28 {
-        pile[last as usize] = (code + 32) * 65536 + t as u64;
-        return Judging {
-            down: true,
-            at: number,
-            top: top,
-        };
+        pile[last] = at_work(code + 32, t);
+        return due(number, top);
     }
     if code == 28 {
-        return Judging {
-            down: false,
-            at: negation_type(t),
-            top: last,
-        };
+        return found(negation_type(t), last);
     }
-    Judging {
-        down: false,
-        at: operator_type(code - 32, number, t),
-        top: last,
-    }
+    found(operator_type(code - 32, number, t), last)
 }
 
 // The type of node k; a node that is no expression stands for a Bool, and no table that passes the check has one here.
@@ -142,19 +151,15 @@ pub(crate) fn expression_type(words: &[u16], pile: &mut [u64], slots: u64, k: u1
     requires { ⌜ CheckedNode (now words) (length (now pile)) k ⌝ }
     ensures { λ r. ⌜ r ≡ exprType (typesIn slots) (exprAt (now (words .entry)) k) ⌝ }
 {
-    let mut w = Judging {
-        down: true,
-        at: k,
-        top: 0,
-    };
+    let mut w = due(k, 0);
     loop {
-        if w.down {
+        if w.due {
             w = judge(words, pile, slots, w);
         } else {
             if w.top == 0 {
                 return w.at;
             }
-            w = found(words, pile, slots, w);
+            w = apply(words, pile, slots, w);
         }
     }
 }

@@ -2,23 +2,19 @@ use borrow.Author.Tests.{lt-ltb}
 use native.Mathlib.Omega.{arith}
 use Rattle.grammar.specs.Types.{has}
 use borrow.Author.Needs.{needs}
-use Rattle.typing.proofs.terms.has_type.Statement.{statement}
-use Rattle.typing.proofs.terms.has_type.Tie as tie
+use Rattle.typing.proofs.expressions.has_type.Statement.{statement}
+use Rattle.typing.proofs.expressions.has_type.Tie as tie
 
--- src/terms.rt:168:9
 returns : tie.Need-returns
 unfolding has
 returns c = rw (c .if1 .taken)
 
--- src/terms.rt:170:5
 expression-type-requires : tie.Need-expression-type-requires
 expression-type-requires c κs = search needs
 
--- src/terms.rt:163:1
 same-length : tie.Need-same-length
 same-length c = search needs
 
--- src/terms.rt:163:1
 returns-2 : tie.Need-returns-2
 unfolding has
 returns-2 c = rw (lt-ltb 0 (c .before .before .before .before .before .before .before .args .t) (omega (arith, c .before .before .before .before .if1 .left)), ← c .before .before .expression-type .ensures)

@@ -1,6 +1,6 @@
 use borrow.Author.Tests.{eq-eqb, ne-eqb}
-use Rattle.typing.proofs.terms.negation_type.Statement.{statement}
-use Rattle.typing.proofs.terms.negation_type.Tie as tie
+use Rattle.typing.proofs.expressions.negation_type.Statement.{statement}
+use Rattle.typing.proofs.expressions.negation_type.Tie as tie
 
 returns : tie.Need-returns
 returns c = rw (eq-eqb (c .before .args .t) 1 (c .if1 .taken))
