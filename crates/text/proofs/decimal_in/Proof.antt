@@ -14,55 +14,42 @@ Inv-loop digits₀ n rest₀ first₀ digits rest first = (length digits ≡ 10)
 abbrev μ-loop : tie.MeasureT-loop
 μ-loop digits₀ n rest₀ first₀ digits rest first = rest
 
--- src/lib.rt:78:5
 loop-holds : tie.Need-loop-holds Inv-loop μ-loop
 loop-holds c = (c .pre, omega arith, omega arith, omega arith, digit-none (c .args .digits .now) (c .args .n) (c .pre), omega arith)
 
--- src/lib.rt:79:9
 sub-first : tie.Need-sub-first Inv-loop μ-loop
 sub-first c = omega (arith, c .before .loop .inv .1)
 
--- src/lib.rt:80:26
 add-digits : tie.Need-add-digits Inv-loop μ-loop
 add-digits c = omega arith
 
--- src/lib.rt:80:25
 cast-digits : tie.Need-cast-digits Inv-loop μ-loop
 cast-digits c = omega arith
 
--- src/lib.rt:80:9
 slice-write-digits : tie.Need-slice-write-digits Inv-loop μ-loop
 slice-write-digits c = omega (arith, c .before .loop .inv .0, c .before .loop .inv .1, c .before .loop .inv .2)
 
--- src/lib.rt:78:5
 loop-less : tie.Need-loop-less Inv-loop μ-loop
 loop-less c = omega arith
 
--- src/lib.rt:78:5
 loop-again : tie.Need-loop-again Inv-loop μ-loop
 loop-again c = let i = c .before .loop .inv in let r = digit-room (c .before .loop .first) (c .before .loop .rest) (c .loop-test .taken) (i .3) in (length-set (c .before .loop .digits) _ _ ∙ i .0, r .0, omega (arith, i .2), r .1, digit-more (c .before .loop .digits) (c .before .loop .first) (c .before .before .args .n) (c .before .loop .rest) (i .1) (omega (arith, i .0, i .2)) (i .4) (c .loop-test .taken) (omega (arith, i .5)), omega (arith, i .5))
 
--- src/lib.rt:83:5
 sub-first-2 : tie.Need-sub-first-2 Inv-loop μ-loop
 sub-first-2 c = omega (arith, c .before .loop .inv .1)
 
--- src/lib.rt:84:22
 add-digits-2 : tie.Need-add-digits-2 Inv-loop μ-loop
 add-digits-2 c = omega arith
 
--- src/lib.rt:84:21
 cast-digits-2 : tie.Need-cast-digits-2 Inv-loop μ-loop
 cast-digits-2 c = omega arith
 
--- src/lib.rt:84:5
 slice-write-digits-2 : tie.Need-slice-write-digits-2 Inv-loop μ-loop
 slice-write-digits-2 c = omega (arith, c .before .loop .inv .0, c .before .loop .inv .1, c .before .loop .inv .2)
 
--- src/lib.rt:72:1
 same-length : tie.Need-same-length Inv-loop μ-loop
 same-length c = length-set (c .before .loop .digits) _ _ ∙ c .before .loop .inv .0 ∙ sym (c .before .before .pre)
 
--- src/lib.rt:72:1
 returns : tie.Need-returns Inv-loop μ-loop
 returns c = let i = c .before .loop .inv in (omega (arith, i .2), digit-first (c .before .loop .digits) (c .before .loop .first) (c .before .before .args .n) (c .before .loop .rest) (i .1) (omega (arith, i .0, i .2)) (i .4) (omega (arith, c .loop-test .left)))
 

@@ -4,35 +4,27 @@ use borrow.Author.Needs.{needs}
 use Rattle.text.proofs.put_decimal.Statement.{statement}
 use Rattle.text.proofs.put_decimal.Tie as tie
 
--- src/lib.rt:93:28
 slice-aggregate-decimal-in : tie.Need-slice-aggregate-decimal-in
 slice-aggregate-decimal-in c = search needs
 
--- src/lib.rt:93:9
 decimal-in-requires : tie.Need-decimal-in-requires
 decimal-in-requires c κs = search needs
 
--- src/lib.rt:94:25
 sub-put-bytes : tie.Need-sub-put-bytes
 sub-put-bytes c = search needs
 
--- src/lib.rt:94:25
 part-put-bytes-start : tie.Need-part-put-bytes-start
 part-put-bytes-start c = search needs
 
--- src/lib.rt:94:25
 part-put-bytes-end : tie.Need-part-put-bytes-end
 part-put-bytes-end c = search needs
 
--- src/lib.rt:94:5
 put-bytes-requires : tie.Need-put-bytes-requires
 put-bytes-requires c κs = search needs
 
--- src/lib.rt:89:1
 same-length : tie.Need-same-length
 same-length c = search needs
 
--- src/lib.rt:89:1
 returns : tie.Need-returns
 returns c = wrote-as (digits-part (c .before .before .before .before .before .before .before .decimal-in .last .0) (c .before .before .before .before .before .before .before .decimal-in .result) _ (c .before .before .before .before .before .before .before .decimal-in .kept .0) (c .before .before .before .before .before .before .before .decimal-in .ensures .1)) (c .before .before .put-bytes .ensures)
 

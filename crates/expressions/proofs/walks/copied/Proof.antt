@@ -13,43 +13,33 @@ Inv-loop pile longer₀ i₀ i-end longer i = (i ≤ length pile) × Alike i pil
 abbrev μ-loop : tie.MeasureT-loop
 μ-loop pile longer₀ i₀ i-end longer i = length pile - i
 
--- src/walks.rt:198:5
 loop-holds : tie.Need-loop-holds Inv-loop μ-loop
 loop-holds c = (omega arith, (λ j h. absurd (omega arith)), refl)
 
--- src/walks.rt:199:21
 mul-longer : tie.Need-mul-longer Inv-loop μ-loop
 mul-longer c = omega arith
 
--- src/walks.rt:199:21
 shared-slice-read-longer : tie.Need-shared-slice-read-longer Inv-loop μ-loop
 shared-slice-read-longer c = omega arith
 
--- src/walks.rt:199:9
 mul-longer-2 : tie.Need-mul-longer-2 Inv-loop μ-loop
 mul-longer-2 c = omega arith
 
--- src/walks.rt:199:9
 slice-write-longer : tie.Need-slice-write-longer Inv-loop μ-loop
 slice-write-longer c = omega arith
 
--- src/walks.rt:198:9
 add-i : tie.Need-add-i Inv-loop μ-loop
 add-i c = omega arith
 
--- src/walks.rt:198:5
 loop-less : tie.Need-loop-less Inv-loop μ-loop
 loop-less c = omega arith
 
--- src/walks.rt:198:5
 loop-again : tie.Need-loop-again Inv-loop μ-loop
 loop-again c = (omega arith, alike-more (c .before .before .before .args .pile .now) (c .before .before .loop .longer) (c .before .before .loop .i) (c .before .before .loop .inv .1) (let e = c .before .before .loop .inv .2 in omega arith), length-set (c .before .before .loop .longer) (c .before .before .loop .i) _ ∙ c .before .before .loop .inv .2)
 
--- src/walks.rt:194:1
 same-length : tie.Need-same-length Inv-loop μ-loop
 same-length c = c .before .loop .inv .2
 
--- src/walks.rt:194:1
 returns : tie.Need-returns Inv-loop μ-loop
 returns c = let e : c .before .loop .i ≡ length (c .before .before .args .pile .now) = omega arith in rw e at (c .before .loop .inv .1)
 

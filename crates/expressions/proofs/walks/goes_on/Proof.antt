@@ -5,26 +5,21 @@ use borrow.Author.Needs.{needs}
 use Rattle.expressions.proofs.walks.goes_on.Statement.{statement}
 use Rattle.expressions.proofs.walks.goes_on.Tie as tie
 
--- src/walks.rt:143:13
 returns : tie.Need-returns
 unfolding goesOn
 returns c = rw (c .before .before .if1 .taken, le-leb (c .before .before .before .args .levels) (c .before .before .before .args .w .top) (c .if2 .taken))
 
--- src/walks.rt:145:17
 cast-result : tie.Need-cast-result
 cast-result c = search needs
 
--- src/walks.rt:145:9
 returns-2 : tie.Need-returns-2
 unfolding goesOn
 returns-2 c = rw (c .before .before .before .if1 .taken, lt-leb (c .before .before .before .before .args .levels) (c .before .before .before .before .args .w .top) (omega arith))
 
--- src/walks.rt:148:9
 returns-3 : tie.Need-returns-3
 unfolding goesOn
 returns-3 c = rw (c .before .before .if1 .left, le-leb 5 (c .before .before .before .args .w .tag) (c .if3 .taken))
 
--- src/walks.rt:138:1
 returns-4 : tie.Need-returns-4
 unfolding goesOn
 returns-4 c = rw (c .before .before .before .if1 .left, lt-leb 5 (c .before .before .before .before .args .w .tag) (omega arith))

@@ -4,27 +4,21 @@ use borrow.Author.Needs.{needs}
 use Rattle.expressions.proofs.walks.step.Statement.{statement}
 use Rattle.expressions.proofs.walks.step.Tie as tie
 
--- src/walks.rt:167:9
 enter-requires : tie.Need-enter-requires
 enter-requires c κs = (c .before .before .before .before .before .before .before .pre .0, c .before .if1 .taken, c .before .before .before .before .before .before .before .pre .2, room-above (c .before .before .before .before .before .before .before .args .levels) (length (c .before .before .before .before .before .before .before .args .pile .now)) (c .before .before .before .before .before .before .before .args .w) (c .before .before .before .before .before .before .before .pre .1) (c .before .if1 .taken))
 
--- src/walks.rt:167:9
 same-length : tie.Need-same-length
 same-length c = search needs
 
--- src/walks.rt:167:9
 returns : tie.Need-returns
 returns c = c .before .before .enter .ensures (c .before .before .before .before .before .before .before .before .before .before .args .literals .now) (c .before .before .before .before .before .before .before .before .before .before .args .message .now)
 
--- src/walks.rt:169:5
 resume-requires : tie.Need-resume-requires
 resume-requires c κs = let v = value-waited-for (c .before .before .before .before .before .before .before .args .levels) (length (c .before .before .before .before .before .before .before .args .pile .now)) (c .before .before .before .before .before .before .before .args .w) (c .before .before .before .before .before .before .before .pre .1) (c .before .if1 .left) in (c .before .if1 .left, v .0, v .1, c .before .before .before .before .before .before .before .pre .2)
 
--- src/walks.rt:153:1
 same-length-2 : tie.Need-same-length-2
 same-length-2 c = search needs
 
--- src/walks.rt:153:1
 returns-2 : tie.Need-returns-2
 returns-2 c = c .before .before .resume .ensures (c .before .before .before .before .before .before .before .before .before .before .args .words .now) (c .before .before .before .before .before .before .before .before .before .before .args .slots .now) (c .before .before .before .before .before .before .before .before .before .before .args .levels)
 

@@ -4,67 +4,51 @@ use borrow.Author.Needs.{needs}
 use Rattle.expressions.proofs.walks.turn.Statement.{statement}
 use Rattle.expressions.proofs.walks.turn.Tie as tie
 
--- src/walks.rt:96:18
 add-upper : tie.Need-add-upper
 add-upper c = search needs
 
--- src/walks.rt:96:17
 mul-upper : tie.Need-mul-upper
 mul-upper c = search needs
 
--- src/walks.rt:96:41
 mul-upper-2 : tie.Need-mul-upper-2
 mul-upper-2 c = search needs
 
--- src/walks.rt:96:17
 add-upper-2 : tie.Need-add-upper-2
 add-upper-2 c = search needs
 
--- src/walks.rt:96:17
 add-upper-3 : tie.Need-add-upper-3
 add-upper-3 c = search needs
 
--- src/walks.rt:98:9
 put-to-work-requires : tie.Need-put-to-work-requires
 put-to-work-requires c κs = search needs
 
--- src/walks.rt:98:9
 same-length : tie.Need-same-length
 same-length c = search needs
 
--- src/walks.rt:98:9
 returns : tie.Need-returns
 returns c = λ A. turned-eager A (c .before .before .before .before .before .before .before .args .pile .now) (c .before .before .before .before .before .before .before .args .n) (c .before .before .before .before .before .before .before .args .j) (c .before .before .before .before .before .before .before .args .k) (c .before .before .before .before .before .before .before .args .b) (c .before .before .before .before .before .before .before .args .v) (c .before .before .before .before .before .before .before .pre .3) (c .before .before .put-to-work .ensures) (omega arith) (omega arith) (c .before .before .before .before .before .before .before .pre .0) (c .before .before .before .before .if1 .taken)
 
--- src/walks.rt:101:25
 stuck-requires : tie.Need-stuck-requires
 stuck-requires c κs = search needs
 
--- src/walks.rt:101:9
 found-requires : tie.Need-found-requires
 found-requires c κs = search needs
 
--- src/walks.rt:101:9
 returns-2 : tie.Need-returns-2
 returns-2 c = λ A. turned-stuck A (c .before .before .before .before .before .before .before .args .pile .now) (c .before .before .before .before .before .before .before .args .n) (c .before .before .before .before .before .before .before .args .j) (c .before .before .before .before .before .before .before .args .k) (c .before .before .before .before .before .before .before .args .b) (c .before .before .before .before .before .before .before .args .v) (c .before .before .before .before .before .before .before .pre .3) _ (c .found .ensures) (c .before .stuck .ensures) (omega arith) (c .before .before .before .before .before .before .before .pre .1) (c .before .before .if2 .taken)
 
--- src/walks.rt:104:9
 found-requires-2 : tie.Need-found-requires-2
 found-requires-2 c κs = search needs
 
--- src/walks.rt:104:9
 returns-3 : tie.Need-returns-3
 returns-3 c = λ A. turned-decided A (c .before .before .before .before .before .before .before .before .args .pile .now) (c .before .before .before .before .before .before .before .before .args .n) (c .before .before .before .before .before .before .before .before .args .j) (c .before .before .before .before .before .before .before .before .args .k) (c .before .before .before .before .before .before .before .before .args .b) (c .before .before .before .before .before .before .before .before .args .v) (c .before .before .before .before .before .before .before .before .pre .3) (c .found2 .ensures) (omega arith) (c .before .before .before .before .before .before .before .before .pre .1) (c .before .before .before .if2 .left) (c .before .if3 .taken)
 
--- src/walks.rt:106:5
 put-to-work-requires-2 : tie.Need-put-to-work-requires-2
 put-to-work-requires-2 c κs = search needs
 
--- src/walks.rt:92:1
 same-length-2 : tie.Need-same-length-2
 same-length-2 c = search needs
 
--- src/walks.rt:92:1
 returns-4 : tie.Need-returns-4
 returns-4 c = λ A. turned-open A (c .before .before .before .before .before .before .before .before .before .before .before .args .pile .now) (c .before .before .before .before .before .before .before .before .before .before .before .args .n) (c .before .before .before .before .before .before .before .before .before .before .before .args .j) (c .before .before .before .before .before .before .before .before .before .before .before .args .k) (c .before .before .before .before .before .before .before .before .before .before .before .args .b) (c .before .before .before .before .before .before .before .before .before .before .before .args .v) (c .before .before .before .before .before .before .before .before .before .before .before .pre .3) (c .before .before .put-to-work2 .ensures) (omega arith) (omega arith) (c .before .before .before .before .before .before .before .before .before .before .before .pre .0) (omega arith) (c .before .before .before .before .before .before .before .before .before .before .before .pre .1) (c .before .before .before .before .before .before .if2 .left) (c .before .before .before .before .if3 .left)
 

@@ -5,23 +5,18 @@ use borrow.Author.Needs.{needs}
 use Rattle.expressions.proofs.walks.walk_deeper.Statement.{statement}
 use Rattle.expressions.proofs.walks.walk_deeper.Tie as tie
 
--- src/walks.rt:217:18
 slice-aggregate-copied : tie.Need-slice-aggregate-copied
 slice-aggregate-copied c = search needs
 
--- src/walks.rt:217:5
 copied-requires : tie.Need-copied-requires
 copied-requires c κs = search needs
 
--- src/walks.rt:218:65
 slice-aggregate-walk-on : tie.Need-slice-aggregate-walk-on
 slice-aggregate-walk-on c = search needs
 
--- src/walks.rt:218:9
 walk-on-requires : tie.Need-walk-on-requires
 walk-on-requires c κs = search needs
 
--- src/walks.rt:204:1
 returns : tie.Need-returns
 returns c = long-enough (asked (c .before .before .before .before .before .before .before .before .before .before .before .args .words .now) (c .before .before .before .before .before .before .before .before .before .before .before .args .literals .now) (c .before .before .before .before .before .before .before .before .before .before .before .args .message .now) (c .before .before .before .before .before .before .before .before .before .before .before .args .slots .now) (c .before .before .before .before .before .before .before .before .before .before .before .args .levels)) (c .before .before .before .before .before .before .before .before .before .before .before .args .pile .now) (c .before .walk-on .ensures) (c .before .before .before .before .copied .ensures) (c .before .before .before .before .before .before .before .before .before .before .before .pre .1) (omega arith)
 

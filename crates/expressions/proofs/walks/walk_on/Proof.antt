@@ -12,36 +12,28 @@ Inv-loop words literals message slots levels pile₀ rules w₀ pile w = (comesT
 abbrev μ-loop : tie.MeasureT-loop
 μ-loop words literals message slots levels pile₀ rules w₀ pile w = weighs (owedAt (asked words literals message slots levels)) (walking (asked words literals message slots levels) pile w)
 
--- src/walks.rt:185:9
 rule-count-requires : tie.Need-rule-count-requires Inv-loop μ-loop
 rule-count-requires c κs = tt
 
--- src/walks.rt:187:5
 loop-holds : tie.Need-loop-holds Inv-loop μ-loop
 loop-holds c = (refl, c .before .before .before .before .before .before .pre, refl)
 
--- src/walks.rt:187:11
 goes-on-requires : tie.Need-goes-on-requires Inv-loop μ-loop
 goes-on-requires c κs = tt
 
--- src/walks.rt:188:9
 step-requires : tie.Need-step-requires Inv-loop μ-loop
 step-requires c κs = (c .before .before .before .before .rule-count .ensures, sym (c .before .before .goes-on .ensures) ∙ c .before .if1 .taken, c .before .before .before .loop .inv .1)
 
--- src/walks.rt:187:5
 loop-less : tie.Need-loop-less Inv-loop μ-loop
 loop-less c = c .before .before .step .ensures .less
 
--- src/walks.rt:187:5
 loop-again : tie.Need-loop-again Inv-loop μ-loop
 unfolding walking
 loop-again c = (c .before .before .step .ensures .same ∙ c .before .before .before .before .before .before .loop .inv .0, c .before .before .step .ensures .piled .room, c .before .before .step .ensures .long ∙ c .before .before .before .before .before .before .loop .inv .2)
 
--- src/walks.rt:173:1
 same-length : tie.Need-same-length Inv-loop μ-loop
 same-length c = c .before .before .loop .inv .2
 
--- src/walks.rt:173:1
 returns : tie.Need-returns Inv-loop μ-loop
 returns c = record { same = c .before .before .loop .inv .0; room = c .before .before .loop .inv .1; rests = rw (c .before .before .loop .inv .2) at (sym (c .before .goes-on .ensures) ∙ c .if1 .left) }
 
