@@ -25,7 +25,7 @@ use Rattle.grammar.proofs.Decode.{rule-tree, grammar-length}
 use Rattle.typing.specs.Checked.{CheckedNode, CheckedPlaces, CheckedRule}
 use Rattle.typing.specs.Slots.{slotTypes, typesIn, broken, told}
 use Rattle.typing.specs.Places.{inheritedAt, inheritedTypes, returnedTyped}
-use Rattle.typing.proofs.Walks.{sound, sized}
+use Rattle.typing.proofs.Walks.{sound}
 use Rattle.typing.proofs.Numbers.{types-before, told-some, told-none}
 use Rattle.typing.proofs.Leaves.{picked, inherited-small}
 
@@ -75,27 +75,26 @@ module _ {words : List ℕ} {r : ℕ} (rule : CheckedRule words r) where
         four-types a b c d (s .0) (s .1) (s .2) (s .3)
         ∙ rw (e, f, g, h) (four-start (inheritedCount words r) (ruleWord words r 2) (ruleWord words r 3) (ruleWord words r 4) (ruleWord words r 5))
 
-  pub body-there : {b : ℕ} → b ≡ ruleWord words r 0 → CheckedNode words 1024 b
-  body-there e =
-      let p = rule-right words (rule .table .literals) (sound (rule .table)) r (rule .there) .body .below in
-      let s = sized (rule .table) .most-nodes in
-      record { table = rule .table; there = omega arith; fits = omega arith }
+  module _ {room : ℕ} (enough : nodeCount words ≤ room) where
+    pub body-there : {b : ℕ} → b ≡ ruleWord words r 0 → CheckedNode words room b
+    body-there e =
+        let p = rule-right words (rule .table .literals) (sound (rule .table)) r (rule .there) .body .below in
+        record { table = rule .table; there = omega arith; fits = omega arith }
 
-  pub returned-there : {m a b c d : ℕ} → m ≡ returnedCount words r
-      → a ≡ ruleWord words r 7 → b ≡ ruleWord words r 8 → c ≡ ruleWord words r 9 → d ≡ ruleWord words r 10 → CheckedPlaces words 1024 m a b c d
-  returned-there {m} {a} {b} {c} {d} n e f g h =
-      let right = rule-right words (rule .table .literals) (sound (rule .table)) r (rule .there) in
-      let few = right .returned-most in
-      let s = sized (rule .table) .most-nodes in
-      record {
-        table = rule .table;
-        there = λ i l. four-places (λ j. j < m → (getD (a ∷ b ∷ c ∷ d ∷ []) j 0 < nodeCount words) × (getD (a ∷ b ∷ c ∷ d ∷ []) j 0 < 1024))
-            (λ u. let p = right .returned 0 (omega arith) .below in (omega arith, omega arith))
-            (λ u. let p = right .returned 1 (omega arith) .below in (omega arith, omega arith))
-            (λ u. let p = right .returned 2 (omega arith) .below in (omega arith, omega arith))
-            (λ u. let p = right .returned 3 (omega arith) .below in (omega arith, omega arith))
-            i (omega arith) l;
-      }
+    pub returned-there : {m a b c d : ℕ} → m ≡ returnedCount words r
+        → a ≡ ruleWord words r 7 → b ≡ ruleWord words r 8 → c ≡ ruleWord words r 9 → d ≡ ruleWord words r 10 → CheckedPlaces words room m a b c d
+    returned-there {m} {a} {b} {c} {d} n e f g h =
+        let right = rule-right words (rule .table .literals) (sound (rule .table)) r (rule .there) in
+        let few = right .returned-most in
+        record {
+          table = rule .table;
+          there = λ i l. four-places (λ j. j < m → (getD (a ∷ b ∷ c ∷ d ∷ []) j 0 < nodeCount words) × (getD (a ∷ b ∷ c ∷ d ∷ []) j 0 < room))
+              (λ u. let p = right .returned 0 (omega arith) .below in (omega arith, omega arith))
+              (λ u. let p = right .returned 1 (omega arith) .below in (omega arith, omega arith))
+              (λ u. let p = right .returned 2 (omega arith) .below in (omega arith, omega arith))
+              (λ u. let p = right .returned 3 (omega arith) .below in (omega arith, omega arith))
+              i (omega arith) l;
+        }
 
   abbrev bodyLeaves : Option Env
   bodyLeaves = typeOf (grammarOf words) (startEnv (inheritedTypes words r)) (parsingAt words (ruleWord words r 0))

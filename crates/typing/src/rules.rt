@@ -1,8 +1,8 @@
 // The type rules for whole rules.
 ghost use mathlib.Core.Path.{_≡_};
-ghost use Prim.Native.Nat.{_+_, _<_};
+ghost use Prim.Native.Nat.{_+_, _<_, _≤_};
 ghost use lib.ListN.{length};
-ghost use Rattle.grammar.specs.Words.{inheritedCount, ruleWord};
+ghost use Rattle.grammar.specs.Words.{inheritedCount, nodeCount, ruleWord};
 ghost use Rattle.grammar.specs.Tree.{grammarOf, ruleOf};
 ghost use Rattle.grammar.specs.Types.{startEnv, typedRule};
 ghost use Rattle.grammar.specs.Answer.{typeRules};
@@ -16,6 +16,7 @@ use grammar::Verdict;
 use table::records::body;
 use table::records::inherited_count;
 use table::records::inherited_type;
+use table::records::node_count;
 use table::records::returned_count;
 use table::records::returned_node;
 use table::records::returned_type;
@@ -46,7 +47,7 @@ fn start_slots(words: &[u16], r: u16) -> u64
 
 // "after the body each returned node has its declared type"
 fn returned_typed(words: &[u16], pile: &mut [u64], slots: u64, r: u16) -> bool
-    requires { ⌜ CheckedRule (now words) r × (length (now pile) ≡ 1024) ⌝ }
+    requires { ⌜ CheckedRule (now words) r × (nodeCount (now words) ≤ length (now pile)) ⌝ }
     ensures { λ x. ⌜ x ≡ returnedTyped (now (words .entry)) (typesIn slots) r ⌝ }
 {
     let n = returned_count(words, r);
@@ -63,7 +64,7 @@ fn returned_typed(words: &[u16], pile: &mut [u64], slots: u64, r: u16) -> bool
 
 // Rule r keeps the type rules.
 fn rule_typed(words: &[u16], pile: &mut [u64], r: u16) -> bool
-    requires { ⌜ CheckedRule (now words) r × (length (now pile) ≡ 1024) ⌝ }
+    requires { ⌜ CheckedRule (now words) r × (nodeCount (now words) ≤ length (now pile)) ⌝ }
     ensures { λ x. ⌜ x ≡ typedRule (grammarOf (now (words .entry))) (ruleOf (grammarOf (now (words .entry))) r) ⌝ }
 {
     let start = start_slots(words, r);
@@ -77,7 +78,7 @@ fn rule_typed(words: &[u16], pile: &mut [u64], r: u16) -> bool
 
 // "a rule fails the type rules": "smallest such rule"
 fn first_untyped(words: &[u16], pile: &mut [u64]) -> Verdict
-    requires { ⌜ Checked (now words) × (length (now pile) ≡ 1024) ⌝ }
+    requires { ⌜ Checked (now words) × (nodeCount (now words) ≤ length (now pile)) ⌝ }
     ensures { λ v. ⌜ v ≡ typeRules (now (words .entry)) ⌝ }
 {
     let rules = rule_count(words);
@@ -91,11 +92,16 @@ fn first_untyped(words: &[u16], pile: &mut [u64]) -> Verdict
     Verdict::Passed
 }
 
-// The pile of all walks is made once: 1,024 places, as many as a table has nodes.
+// The pile of all walks is made once, with as many places as a table may have nodes. A display run makes this check for every message, and most tables are small: for those
+// a pile that is quickly cleared.
 pub(crate) fn typed_rules(words: &[u16]) -> Verdict
     requires { ⌜ Checked (now words) ⌝ }
     ensures { λ v. ⌜ v ≡ typeRules (now (words .entry)) ⌝ }
 {
+    if node_count(words) <= 128 {
+        let mut few = [0u64; 128];
+        return first_untyped(words, &mut few);
+    }
     let mut pile = [0u64; 1024];
     first_untyped(words, &mut pile)
 }

@@ -25,7 +25,7 @@ loop-holds : tie.Need-loop-holds Inv-loop μ-loop
 loop-holds c = (omega arith, refl, λ i l. absurd (omega arith))
 
 rule-typed-requires : tie.Need-rule-typed-requires Inv-loop μ-loop
-rule-typed-requires c κs = let s = c .before .before .before .before .before .before in (record { table = s .pre .0; there = omega (arith, c .before .before .before .rule-count .ensures) }, c .before .before .loop .inv .1 ∙ s .pre .1)
+rule-typed-requires c κs = let s = c .before .before .before .before .before .before in (record { table = s .pre .0; there = omega (arith, c .before .before .before .rule-count .ensures) }, omega (arith, c .before .before .loop .inv .1, s .pre .1))
 
 same-length : tie.Need-same-length Inv-loop μ-loop
 same-length c = c .before .before .before .rule-typed .kept .1 .0 ∙ c .before .before .before .before .before .before .loop .inv .1

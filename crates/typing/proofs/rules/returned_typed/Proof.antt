@@ -1,7 +1,6 @@
 use mathlib.Core.Path.{_∙_}
 use Rattle.typing.specs.Places.{returnedTyped}
 use Rattle.typing.proofs.Whole.{returned-there}
-use Rattle.typing.proofs.Walks.{longer}
 use borrow.Author.Needs.{needs}
 use Rattle.typing.proofs.rules.returned_typed.Statement.{statement}
 use Rattle.typing.proofs.rules.returned_typed.Tie as tie
@@ -34,7 +33,7 @@ returned-type-requires-4 : tie.Need-returned-type-requires-4
 returned-type-requires-4 c κs = search needs
 
 places-typed-requires : tie.Need-places-typed-requires
-places-typed-requires c κs = let s = c .before .before .before .before .before .before .before .before .before .before .before .before in longer (s .pre .1) (returned-there (s .pre .0) (c .before .before .before .before .before .before .before .before .before .returned-count .ensures) (c .before .before .before .before .before .before .before .before .returned-node .ensures) (c .before .before .before .before .before .before .before .returned-node2 .ensures) (c .before .before .before .before .before .before .returned-node3 .ensures) (c .before .before .before .before .before .returned-node4 .ensures))
+places-typed-requires c κs = let s = c .before .before .before .before .before .before .before .before .before .before .before .before in returned-there (s .pre .0) (s .pre .1) (c .before .before .before .before .before .before .before .before .before .returned-count .ensures) (c .before .before .before .before .before .before .before .before .returned-node .ensures) (c .before .before .before .before .before .before .before .returned-node2 .ensures) (c .before .before .before .before .before .before .returned-node3 .ensures) (c .before .before .before .before .before .returned-node4 .ensures)
 
 same-length : tie.Need-same-length
 same-length c = search needs

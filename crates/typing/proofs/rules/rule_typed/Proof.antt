@@ -11,7 +11,7 @@ body-requires : tie.Need-body-requires
 body-requires c κs = search needs
 
 leaves-requires : tie.Need-leaves-requires
-leaves-requires c κs = let s = c .before .before .before .before .before in (rw (s .pre .1) (body-there (s .pre .0) (c .before .body .ensures)), c .before .before .start-slots .ensures .0)
+leaves-requires c κs = let s = c .before .before .before .before .before in (body-there (s .pre .0) (s .pre .1) (c .before .body .ensures), c .before .before .start-slots .ensures .0)
 
 same-length : tie.Need-same-length
 same-length c = search needs
