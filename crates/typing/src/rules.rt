@@ -16,7 +16,6 @@ use grammar::Verdict;
 use table::records::body;
 use table::records::inherited_count;
 use table::records::inherited_type;
-use table::records::node_count;
 use table::records::returned_count;
 use table::records::returned_node;
 use table::records::returned_type;
@@ -92,16 +91,11 @@ fn first_untyped(words: &[u16], pile: &mut [u64]) -> Verdict
     Verdict::Passed
 }
 
-// The pile of all walks is made once, with as many places as a table may have nodes. A display run makes this check for every message, and most tables are small: for those
-// a pile that is quickly cleared.
+// The pile of all walks is made once: 1,024 places, as many as a table may have nodes.
 pub(crate) fn typed_rules(words: &[u16]) -> Verdict
     requires { ⌜ Checked (now words) ⌝ }
     ensures { λ v. ⌜ v ≡ typeRules (now (words .entry)) ⌝ }
 {
-    if node_count(words) <= 128 {
-        let mut few = [0u64; 128];
-        return first_untyped(words, &mut few);
-    }
     let mut pile = [0u64; 1024];
     first_untyped(words, &mut pile)
 }

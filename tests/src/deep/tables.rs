@@ -420,12 +420,6 @@ fn bodies(nest: &'static Nest, all: &mut Vec<Maker>) {
     for levels in [deepest - 1, deepest] {
         all.push(Box::new(move || a_body(nest, 0, Plain, Some(levels))));
     }
-    // about 128 nodes, by one and by two a level
-    for levels in [63, 64, 126, 127, 128] {
-        for what in [Plain, Wrong] {
-            all.push(Box::new(move || a_body(nest, 0, what, Some(levels))));
-        }
-    }
     for inner in [0, 1, 2, 15].map(|index: usize| &EXPRESSIONS[index]) {
         all.push(Box::new(move || halves(nest, inner, 200)));
         all.push(Box::new(move || halves(nest, inner, deepest - 3)));
