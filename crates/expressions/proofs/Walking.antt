@@ -20,29 +20,29 @@ use Rattle.values.specs.Slots.{slotsOf, valueOf}
 use Rattle.expressions.specs.declared.results.Given.{Given}
 use Rattle.expressions.specs.declared.walks.Walk.{Walk}
 use Rattle.expressions.specs.Given.{givenOf, given, held, operatorOf, leafOf}
-use Rattle.expressions.specs.Walks.{Asked, asked, AtWork, left, right, opposing, atWork, numberOf, workAt, givesAt, withLeft, resolved, owed, Anything, walking, Steps, foundAt, Opened}
+use Rattle.expressions.specs.Walks.{Asked, asked, Work, left, right, opposing, workIn, atWork, workAt, givesAt, withLeft, resolved, owed, Anything, walking, Steps, resultFound, Opened}
 use Rattle.expressions.proofs.Givens.{by-number, value-given, no-bool}
 use Rattle.expressions.proofs.Nodes.{leaf-node, far-node, binary-node, not-node, tree-seen}
 
 -- ════ Operators at work, in numbers ════
 
-halves : (upper lower : ℕ) → lower < 4294967296 → workAt (numberOf upper lower) ≡ atWork upper lower
+halves : (upper lower : ℕ) → lower < 4294967296 → workAt (atWork upper lower) ≡ workIn upper lower
 halves upper lower h =
-    let u : numberOf upper lower / 4294967296 ≡ upper = omega arith in
-    let l : numberOf upper lower % 4294967296 ≡ lower = omega arith in
+    let u : atWork upper lower / 4294967296 ≡ upper = omega arith in
+    let l : atWork upper lower % 4294967296 ≡ lower = omega arith in
     rw (u, l)
 
 module _ (upper lower : ℕ) where
-  as-right : 0 < upper / 1048576 % 8 → atWork upper lower ≡ right (upper % 65536) (operatorOf (upper / 65536 % 16)) (valueOf (upper / 1048576 % 8 - 1) lower)
-  unfolding atWork
+  as-right : 0 < upper / 1048576 % 8 → workIn upper lower ≡ right (upper % 65536) (operatorOf (upper / 65536 % 16)) (valueOf (upper / 1048576 % 8 - 1) lower)
+  unfolding workIn
   as-right h = rw (lt-ltb 0 (upper / 1048576 % 8) h)
 
-  as-left : upper / 1048576 % 8 ≤ 0 → upper / 65536 % 16 < 8 → atWork upper lower ≡ left (upper % 65536) (operatorOf (upper / 65536 % 16)) (lower % 65536)
-  unfolding atWork
+  as-left : upper / 1048576 % 8 ≤ 0 → upper / 65536 % 16 < 8 → workIn upper lower ≡ left (upper % 65536) (operatorOf (upper / 65536 % 16)) (lower % 65536)
+  unfolding workIn
   as-left h g = rw (le-ltb 0 (upper / 1048576 % 8) h, lt-ltb (upper / 65536 % 16) 8 g)
 
-  as-opposing : upper / 1048576 % 8 ≤ 0 → 8 ≤ upper / 65536 % 16 → atWork upper lower ≡ opposing (upper % 65536)
-  unfolding atWork
+  as-opposing : upper / 1048576 % 8 ≤ 0 → 8 ≤ upper / 65536 % 16 → workIn upper lower ≡ opposing (upper % 65536)
+  unfolding workIn
   as-opposing h g = rw (le-ltb 0 (upper / 1048576 % 8) h, le-ltb (upper / 65536 % 16) 8 g)
 
 module _ (j k : ℕ) (h : k < 65536) where
@@ -55,16 +55,16 @@ module _ (j k : ℕ) (h : k < 65536) where
   plain-operator : j ≤ 8 → plain / 65536 % 16 ≡ j
   plain-operator f = let d : plain / 65536 ≡ j = omega arith in rw d (omega arith)
 
-  at-left : (b : ℕ) → b < 65536 → j < 8 → atWork plain b ≡ left k (operatorOf j) b
+  at-left : (b : ℕ) → b < 65536 → j < 8 → workIn plain b ≡ left k (operatorOf j) b
   at-left b g f =
       let o = plain-operator (omega arith) in
       let s : b % 65536 ≡ b = omega arith in
       as-left plain b (omega arith) (omega arith) ∙ rw (plain-node, o, s)
 
-  at-not : (b : ℕ) → j ≡ 8 → atWork plain b ≡ opposing k
+  at-not : (b : ℕ) → j ≡ 8 → workIn plain b ≡ opposing k
   at-not b f = let o = plain-operator (omega arith) in as-opposing plain b (omega arith) (omega arith) ∙ rw plain-node
 
-  at-right : (tag payload : ℕ) → tag < 5 → j < 8 → atWork ((tag + 1) * 1048576 + j * 65536 + k) payload ≡ right k (operatorOf j) (valueOf tag payload)
+  at-right : (tag payload : ℕ) → tag < 5 → j < 8 → workIn ((tag + 1) * 1048576 + j * 65536 + k) payload ≡ right k (operatorOf j) (valueOf tag payload)
   at-right tag payload g f =
       let upper = (tag + 1) * 1048576 + j * 65536 + k in
       let d : upper / 65536 ≡ (tag + 1) * 16 + j = omega arith in
@@ -76,7 +76,7 @@ module _ (j k : ℕ) (h : k < 65536) where
       let u : upper / 1048576 % 8 ≡ tag + 1 = rw q t in
       as-right upper payload (omega arith) ∙ rw (r, d, e, q, t, s)
 
-owed-some : (A : Asked) (i : ℕ) (e : AtWork) → 0 < owed A i e
+owed-some : (A : Asked) (i : ℕ) (e : Work) → 0 < owed A i e
 unfolding owed
 owed-some A i (left k op b) = burden-some true (A .levels - (i + 1))
 owed-some A i (right k op v) = burden-some false 0
@@ -89,14 +89,14 @@ anything A room = record { room = room; each = λ i h. tt }
 
 module _ (A : Asked) (w : Walking (Evaluated Value)) where
   -- with a result
-  found-step : (g : Given) {v : Walk} → w .top ≤ length (w .pile) → v ≡ foundAt (w .top) g → given g ≡ w .result → 0 < w .weight → Steps A w (w .pile) v
+  found-step : (g : Given) {v : Walk} → w .top ≤ length (w .pile) → v ≡ resultFound g (w .top) → given g ≡ w .result → 0 < w .weight → Steps A w (w .pile) v
   unfolding walking
   found-step g room e same less = rw e (answered w (anything A room) refl (λ i h. refl) same less)
 
   -- with an operator more at work
   open-step : {upper lower k : ℕ} {later : List ℕ} {v : Walk} → w .top < length (w .pile) → lower < 4294967296 → Opened (w .pile) (w .top) upper lower k later v
-      → resolved A (w .top) (atWork upper lower) (givesAt A (w .top + 1) k) ≡ w .result
-      → heavy (A .levels - (w .top + 1)) + owed A (w .top) (atWork upper lower) < w .weight → Steps A w later v
+      → resolved A (w .top) (workIn upper lower) (givesAt A (w .top + 1) k) ≡ w .result
+      → heavy (A .levels - (w .top + 1)) + owed A (w .top) (workIn upper lower) < w .weight → Steps A w later v
   unfolding walking
   open-step {upper} {lower} fits small o same less =
       let h = halves upper lower small in
@@ -116,7 +116,7 @@ module _ (words literals message slots : List ℕ) (levels : ℕ) (pile : List �
   due-walk = rw due
 
   -- no level is left
-  pub entered-none : (g : Given) {v : Walk} → v ≡ foundAt (w .top) g → given g ≡ truth false → levels ≤ w .top → Steps A (walking A pile w) pile v
+  pub entered-none : (g : Given) {v : Walk} → v ≡ resultFound g (w .top) → given g ≡ truth false → levels ≤ w .top → Steps A (walking A pile w) pile v
   unfolding eval exprWith
   entered-none g e same h =
       let z : levels - w .top ≡ 0 = omega arith in
@@ -133,11 +133,11 @@ module _ (words literals message slots : List ℕ) (levels : ℕ) (pile : List �
     tree : exprWith (levels - w .top) words (w .at) ≡ seen
     tree = tree-seen words (w .at) isRules isStart isKind isA isB (levels - w .top) rest (omega arith)
 
-    pub entered-leaf : (g : Given) {v : Walk} → v ≡ foundAt (w .top) g → given g ≡ leafOf (slotsOf (take 32 slots)) kind (w .at) a b → kind < 20 → Steps A (walking A pile w) pile v
+    pub entered-leaf : (g : Given) {v : Walk} → v ≡ resultFound g (w .top) → given g ≡ leafOf (slotsOf (take 32 slots)) kind (w .at) a b → kind < 20 → Steps A (walking A pile w) pile v
     entered-leaf g e same h =
         rw due-walk (found-step A dueWalk g room e (rw tree (same ∙ leaf-node (A .setting) (A .slots) (exprWith rest words) (w .at) a b kind h)) (heavy-some (levels - w .top)))
 
-    pub entered-far : (g : Given) {v : Walk} → v ≡ foundAt (w .top) g → given g ≡ truth false → 28 < kind → Steps A (walking A pile w) pile v
+    pub entered-far : (g : Given) {v : Walk} → v ≡ resultFound g (w .top) → given g ≡ truth false → 28 < kind → Steps A (walking A pile w) pile v
     entered-far g e same h =
         rw due-walk (found-step A dueWalk g room e (rw tree (same ∙ far-node (A .setting) (A .slots) (exprWith rest words) (w .at) a b kind h)) (heavy-some (levels - w .top)))
 
@@ -212,14 +212,14 @@ module _ (A : Asked) (pile : List ℕ) (n j k b : ℕ) (g : Given) (fits : n < l
   abbrev right-operand : Evaluated Value
   right-operand = after (givesAt A (n + 1) b) (λ w. operate (A .setting .message) (A .setting .literals) (operatorOf j) k (held g) w)
 
-  turned-found : (r : Given) {v : Walk} → v ≡ foundAt n r → given r ≡ withLeft A (n + 1) k (operatorOf j) b (held g) → Steps A turning pile v
+  turned-found : (r : Given) {v : Walk} → v ≡ resultFound r n → given r ≡ withLeft A (n + 1) k (operatorOf j) b (held g) → Steps A turning pile v
   turned-found r e same = found-step A turning r (omega arith) e same (burden-some true (A .levels - (n + 1)))
 
-  pub turned-stuck : (r : Given) {v : Walk} → v ≡ foundAt n r → given r ≡ stuck k → 6 ≤ j → j < 8 → (g .tag ≡ 1 → ⊥) → Steps A turning pile v
+  pub turned-stuck : (r : Given) {v : Walk} → v ≡ resultFound r n → given r ≡ stuck k → 6 ≤ j → j < 8 → (g .tag ≡ 1 → ⊥) → Steps A turning pile v
   turned-stuck r e same low high t =
       turned-found r e (same ∙ look-no-bool (A .setting .message) (A .setting .literals) k right-operand j (g .tag) (g .payload) low high t)
 
-  pub turned-decided : {v : Walk} → v ≡ foundAt n g → 6 ≤ j → j < 8 → g .tag ≡ 1 → Bool·beq (eqb (g .payload) 1) (eqb j 7) ≡ true → Steps A turning pile v
+  pub turned-decided : {v : Walk} → v ≡ resultFound g n → 6 ≤ j → j < 8 → g .tag ≡ 1 → Bool·beq (eqb (g .payload) 1) (eqb j 7) ≡ true → Steps A turning pile v
   turned-decided e low high t d =
       turned-found g e (look-decided (A .setting .message) (A .setting .literals) k right-operand j (g .tag) (g .payload) low high t d)
 
@@ -254,17 +254,17 @@ module _ (A : Asked) (pile : List ℕ) (w : Walk) (found : w .due ≡ false) (is
   found-walk = rw found
 
   -- the operator on top has its value, and a result with it
-  resumed-with : (r : Given) {v : Walk} → v ≡ foundAt (w .top - 1) r → given r ≡ resolved A (w .top - 1) (atWork upper lower) (givenOf (w .tag) (w .payload)) → Steps A (walking A pile w) pile v
+  resumed-with : (r : Given) {v : Walk} → v ≡ resultFound r (w .top - 1) → given r ≡ resolved A (w .top - 1) (workIn upper lower) (givenOf (w .tag) (w .payload)) → Steps A (walking A pile w) pile v
   resumed-with r e same =
-      rw found-walk (lowered foundWalk (anything A room) some refl refl (found-step A _ r (omega arith) e same (omega (arith, owed-some A (w .top - 1) (atWork upper lower)))))
+      rw found-walk (lowered foundWalk (anything A room) some refl refl (found-step A _ r (omega arith) e same (omega (arith, owed-some A (w .top - 1) (workIn upper lower)))))
 
-  pub resumed-right : (r : Given) {v : Walk} → v ≡ foundAt (w .top - 1) r → 0 < upper / 1048576 % 8
+  pub resumed-right : (r : Given) {v : Walk} → v ≡ resultFound r (w .top - 1) → 0 < upper / 1048576 % 8
       → given r ≡ operate (A .setting .message) (A .setting .literals) (operatorOf (upper / 65536 % 16)) (upper % 65536) (valueOf (upper / 1048576 % 8 - 1) lower) (valueOf (w .tag) (w .payload))
       → Steps A (walking A pile w) pile v
   unfolding resolved
   resumed-right r e t same = resumed-with r e (rw (as-right upper lower t, value-given (w .tag) (w .payload) isValue) same)
 
-  pub resumed-not : (r : Given) {v : Walk} → v ≡ foundAt (w .top - 1) r → upper / 1048576 % 8 ≤ 0 → 8 ≤ upper / 65536 % 16
+  pub resumed-not : (r : Given) {v : Walk} → v ≡ resultFound r (w .top - 1) → upper / 1048576 % 8 ≤ 0 → 8 ≤ upper / 65536 % 16
       → given r ≡ negated (upper % 65536) (valueOf (w .tag) (w .payload)) → Steps A (walking A pile w) pile v
   unfolding resolved
   resumed-not r e t j same = resumed-with r e (rw (as-opposing upper lower t j, value-given (w .tag) (w .payload) isValue) same)

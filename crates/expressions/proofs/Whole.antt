@@ -21,7 +21,7 @@ use Rattle.values.specs.Slots.{slotsOf}
 use Rattle.expressions.specs.declared.results.Given.{Given}
 use Rattle.expressions.specs.declared.walks.Walk.{Walk}
 use Rattle.expressions.specs.Given.{givenOf, given, leafOf}
-use Rattle.expressions.specs.Walks.{Asked, asked, AtWork, left, right, opposing, workAt, came, resolved, resolvedAt, walking, dueAt, goesOn, WalkedOn}
+use Rattle.expressions.specs.Walks.{Asked, asked, Work, left, right, opposing, workAt, came, resolved, resolvedAt, walking, nodeDue, goesOn, Rested}
 use Rattle.expressions.proofs.Givens.{end-given}
 use Rattle.expressions.proofs.Nodes.{leaf-node, tree-seen}
 
@@ -48,7 +48,7 @@ module _ (A : Asked) where
   unfolding resolved
   end-stays tag payload h i f = by-work (workAt f)
     where
-      by-work : (work : AtWork) → resolved A i work (givenOf tag payload) ≡ givenOf tag payload
+      by-work : (work : Work) → resolved A i work (givenOf tag payload) ≡ givenOf tag payload
       by-work (left k op b) = sym (end-given tag payload _ h)
       by-work (right k op v) = sym (end-given tag payload _ h)
       by-work (opposing k) = sym (end-given tag payload _ h)
@@ -63,7 +63,7 @@ module _ (A : Asked) where
       by-test false e = let z : w .top ≡ 0 = omega (arith, ltb-false 0 (w .top) (rw (found, e) at off)) in rw (found, z)
 
   -- in a longer pile, which has room for all levels
-  module _ (pile : List ℕ) {longer later : List ℕ} {w v : Walk} (on : WalkedOn A longer w later v) (alike : Alike (length pile) pile longer) where
+  module _ (pile : List ℕ) {longer later : List ℕ} {w v : Walk} (on : Rested A longer w later v) (alike : Alike (length pile) pile longer) where
     in-longer : w .top ≤ length pile → comesTo (resolvedAt A) (walking A longer w) ≡ comesTo (resolvedAt A) (walking A pile w)
     unfolding comesTo walking
     in-longer room = through-alike (resolvedAt A) pile longer (w .top) _ (λ i h. alike i (omega arith))
@@ -82,8 +82,8 @@ module _ (A : Asked) where
     long-enough room enough = rests-with (length longer) later v (on .rests) (found-there enough (v .due) refl) ∙ on .same ∙ in-longer room
 
   -- from node k
-  module _ (k : ℕ) {pile later : List ℕ} {w : Walk} (on : WalkedOn A pile (dueAt 0 k) later w) where
-    from : comesTo (resolvedAt A) (walking A pile (dueAt 0 k)) ≡ came A k
+  module _ (k : ℕ) {pile later : List ℕ} {w : Walk} (on : Rested A pile (nodeDue k 0) later w) where
+    from : comesTo (resolvedAt A) (walking A pile (nodeDue k 0)) ≡ came A k
     unfolding comesTo walking through
     from = let z : A .levels - 0 ≡ A .levels = omega arith in rw z
 

@@ -1,8 +1,8 @@
 -- Results in two words, and operators and leaves by their numbers. Assumes nothing.
-use mathlib.Core.Bool.{Bool, false, true, cond, _&&_, not}
+use mathlib.Core.Bool.{Bool, false, true, cond}
 use mathlib.Core.List.{List, [], _∷_}
-use Prim.Native.Nat.{ℕ, _*_, _+_, _/_, _%_}
-use lib.Dec.{eqb, ltb, leb}
+use Prim.Native.Nat.{ℕ, _/_, _%_}
+use lib.Dec.{eqb, ltb}
 use lib.ListN.{getD}
 use Rattle.grammar.specs.declared.Arithmetic.the-variants.{Add, Subtract, Multiply, Divide}
 use Rattle.grammar.specs.declared.Operator.{Operator}

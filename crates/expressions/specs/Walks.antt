@@ -2,7 +2,7 @@
 use mathlib.Core.Path.{_≡_}
 use mathlib.Core.Bool.{Bool, true, false, cond}
 use mathlib.Core.List.{List}
-use Prim.Native.Nat.{ℕ, _+_, _*_, _-_, _/_, _%_, _<_, _≤_}
+use Prim.Native.Nat.{ℕ, _+_, _*_, _-_, _/_, _%_, _≤_}
 use lib.Dec.{ltb, leb}
 use lib.ListN.{set, length, take}
 use Rattle.laws.specs.Pile.{Walking, Onward, comesTo, heavy, burden}
@@ -24,6 +24,7 @@ pub record Asked : Type 0 where
   pub words : List ℕ
   pub levels : ℕ
 
+-- the same from what code is lent: the slots are the first 32 words
 abbrev pub asked : (words literals message slots : List ℕ) (levels : ℕ) → Asked
 asked words literals message slots levels =
     record { setting = settingOf words literals message; slots = slotsOf (take 32 slots); words = words; levels = levels }
@@ -31,24 +32,26 @@ asked words literals message slots levels =
 -- ════ Operators at work ════
 
 -- operator k at work: its left operand is due and node b is the right one; its right operand is, and the left gave a value; a not, whose operand is due
-pub data AtWork : Type 0 where
-  left : (k : ℕ) → Operator → (b : ℕ) → AtWork
-  right : (k : ℕ) → Operator → Value → AtWork
-  opposing : (k : ℕ) → AtWork
+pub data Work : Type 0 where
+  left : (k : ℕ) → Operator → (b : ℕ) → Work
+  right : (k : ℕ) → Operator → Value → Work
+  opposing : (k : ℕ) → Work
 
--- a number of the pile, in two halves. The upper: 1048576 (the left value's tag + 1) + 65536 (operator) + node, without the first part while the left operand is due; operator
--- 8 is not. The lower: node b, or the left value's payload
-unfoldable pub atWork : (upper lower : ℕ) → AtWork
-atWork upper lower =
+-- An operator at work is one number, in two halves. The upper: 1048576 (the left value's tag + 1) + 65536 (operator) + node, without the first part while the left operand is
+-- due; operator 8 is not, and so is every number above it. The lower: node b, or the left value's payload
+abbrev pub atWork : (upper lower : ℕ) → ℕ
+atWork upper lower = upper * 4294967296 + lower
+
+-- what two halves say
+unfoldable pub workIn : (upper lower : ℕ) → Work
+workIn upper lower =
     cond (ltb 0 (upper / 1048576 % 8))
     (right (upper % 65536) (operatorOf (upper / 65536 % 16)) (valueOf (upper / 1048576 % 8 - 1) lower))
     (cond (ltb (upper / 65536 % 16) 8) (left (upper % 65536) (operatorOf (upper / 65536 % 16)) (lower % 65536)) (opposing (upper % 65536)))
 
-abbrev pub numberOf : (upper lower : ℕ) → ℕ
-numberOf upper lower = upper * 4294967296 + lower
-
-abbrev pub workAt : ℕ → AtWork
-workAt f = atWork (f / 4294967296) (f % 4294967296)
+-- what a number says
+abbrev pub workAt : ℕ → Work
+workAt f = workIn (f / 4294967296) (f % 4294967296)
 
 module _ (A : Asked) where
   -- what node k gives under n operators at work: so many levels less are looked at
@@ -66,27 +69,30 @@ module _ (A : Asked) where
       (after (givesAt n b) (λ w. operate (A .setting .message) (A .setting .literals) op k v w))
 
   -- what an operator at work, under i others, makes of the result it waits for
-  unfoldable pub resolved : ℕ → AtWork → Evaluated Value → Evaluated Value
+  unfoldable pub resolved : ℕ → Work → Evaluated Value → Evaluated Value
   resolved i (left k op b) r = after r (withLeft (i + 1) k op b)
   resolved i (right k op v) r = after r (λ w. operate (A .setting .message) (A .setting .literals) op k v w)
   resolved i (opposing k) r = after r (negated k)
 
+  -- the same of its number
   abbrev pub resolvedAt : (i f : ℕ) → Evaluated Value → Evaluated Value
   resolvedAt i f r = resolved i (workAt f) r
 
   -- and its weight
-  unfoldable pub owed : ℕ → AtWork → ℕ
+  unfoldable pub owed : ℕ → Work → ℕ
   owed i (left k op b) = burden true (A .levels - (i + 1))
   owed i (right k op v) = burden false 0
   owed i (opposing k) = burden false 0
 
+  -- the same of its number
   abbrev pub owedAt : (i f : ℕ) → ℕ
   owedAt i f = owed i (workAt f)
 
+  -- what is known of it: nothing has to be
   abbrev pub Anything : (i f : ℕ) → Type 0
   Anything i f = Unit {0}
 
-  -- a walk of the code
+  -- the code's walk: its result is what the node that is due gives, or the result that was found
   unfoldable pub walking : List ℕ → Walk → Walking (Evaluated Value)
   walking pile w = record {
     pile = pile;
@@ -101,11 +107,13 @@ module _ (A : Asked) where
 
 -- ════ Walks ════
 
-abbrev pub dueAt : (top k : ℕ) → Walk
-dueAt top k = record { due = true; at = k; top = top; tag = 0; payload = 0 }
+-- node k is due
+abbrev pub nodeDue : (k top : ℕ) → Walk
+nodeDue k top = record { due = true; at = k; top = top; tag = 0; payload = 0 }
 
-abbrev pub foundAt : (top : ℕ) → Given → Walk
-foundAt top g = record { due = false; at = 0; top = top; tag = g .tag; payload = g .payload }
+-- a result was found
+abbrev pub resultFound : Given → (top : ℕ) → Walk
+resultFound g top = record { due = false; at = 0; top = top; tag = g .tag; payload = g .payload }
 
 -- a walk goes on while a node is due, unless there is no room above the pile for it to go to work; and while a value is found and an operator waits for it
 unfoldable pub goesOn : (levels room : ℕ) → Walk → Bool
@@ -116,8 +124,8 @@ goesOn levels room w =
 
 -- a number on top of n, and node k is due
 pub record Opened (pile : List ℕ) (n upper lower k : ℕ) (later : List ℕ) (v : Walk) : Type 0 where
-  pub walk : v ≡ dueAt (n + 1) k
-  pub pile-is : later ≡ set pile n (numberOf upper lower)
+  pub walk : v ≡ nodeDue k (n + 1)
+  pub pile-is : later ≡ set pile n (atWork upper lower)
 
 module _ (pile later : List ℕ) (v : Walk) where
   -- of a node that is due, whatever the literals and the message
@@ -141,7 +149,7 @@ module _ (pile later : List ℕ) (v : Walk) where
       (words slots : List ℕ) (levels : ℕ) → Steps (asked words literals message slots levels) (walking (asked words literals message slots levels) pile w) later v
 
 -- of as many steps as there is room for
-pub record WalkedOn (A : Asked) (pile : List ℕ) (w : Walk) (later : List ℕ) (v : Walk) : Type 0 where
+pub record Rested (A : Asked) (pile : List ℕ) (w : Walk) (later : List ℕ) (v : Walk) : Type 0 where
   pub same : comesTo (resolvedAt A) (walking A later v) ≡ comesTo (resolvedAt A) (walking A pile w)
   pub room : v .top ≤ length later
   pub rests : goesOn (A .levels) (length pile) v ≡ false

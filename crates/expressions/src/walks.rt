@@ -6,7 +6,7 @@ ghost use lib.ListN.{length};
 ghost use Rattle.laws.specs.Pile.{Alike, comesTo};
 ghost use Rattle.grammar.specs.Words.{ruleCount};
 ghost use Rattle.expressions.specs.Given.{given};
-ghost use Rattle.expressions.specs.Walks.{asked, came, resolvedAt, walking, Steps, dueAt, foundAt, goesOn, Opened, Entered, Turned, Resumed, WalkedOn};
+ghost use Rattle.expressions.specs.Walks.{asked, came, resolvedAt, walking, Steps, nodeDue, resultFound, goesOn, Opened, Entered, Turned, Resumed, Rested};
 use crate::results::Given;
 use crate::results::leaf;
 use crate::results::negate_given;
@@ -26,8 +26,8 @@ pub struct Walk {
     pub payload: u32,
 }
 
-fn due(top: u16, k: u16) -> Walk
-    ensures { λ r. ⌜ r ≡ dueAt top k ⌝ }
+fn due(k: u16, top: u16) -> Walk
+    ensures { λ r. ⌜ r ≡ nodeDue k top ⌝ }
 {
     Walk {
         due: true,
@@ -38,8 +38,8 @@ fn due(top: u16, k: u16) -> Walk
     }
 }
 
-fn found(top: u16, g: Given) -> Walk
-    ensures { λ r. ⌜ r ≡ foundAt top g ⌝ }
+fn found(g: Given, top: u16) -> Walk
+    ensures { λ r. ⌜ r ≡ resultFound g top ⌝ }
 {
     Walk {
         due: false,
@@ -56,7 +56,7 @@ fn put_to_work(n: u16, upper: u32, lower: u32, k: u16, pile: &mut [u64]) -> Walk
     ensures { λ r. ⌜ Opened (now (pile .entry)) n upper lower k (now (pile .exit)) r ⌝ }
 {
     pile[n as usize] = upper as u64 * 4294967296 + lower as u64;
-    due(n + 1, k)
+    due(k, n + 1)
 }
 
 // A node is due: `levels` levels of nodes are looked at, and what lies deeper counts as false.
@@ -67,17 +67,17 @@ fn enter(words: &[u16], slots: &[u32], rules: u16, levels: u16, w: Walk, pile: &
     let k = w.at;
     let top = w.top;
     if levels <= top {
-        return found(top, truth(false));
+        return found(truth(false), top);
     }
     let start = node_start(rules, k);
     let kind = word_at(words, start);
     let a = word_at(words, start + 1);
     let b = word_at(words, start + 2);
     if kind < 20 {
-        return found(top, leaf(slots, kind, k, a, b));
+        return found(leaf(slots, kind, k, a, b), top);
     }
     if 28 < kind {
-        return found(top, truth(false));
+        return found(truth(false), top);
     }
     put_to_work(
         top,
@@ -98,10 +98,10 @@ fn turn(n: u16, j: u32, k: u16, b: u16, v: Given, pile: &mut [u64]) -> Walk
         return put_to_work(n, upper, v.payload, b, pile);
     }
     if v.tag != 1 {
-        return found(n, stuck(k));
+        return found(stuck(k), n);
     }
     if (v.payload == 1) == (j == 7) {
-        return found(n, v);
+        return found(v, n);
     }
     put_to_work(n, upper, v.payload, b, pile)
 }
@@ -127,12 +127,12 @@ fn resume<'a>(literals: &'a [u8], message: &'a [u8], w: Walk, pile: &mut [u64]) 
             tag: t - 1,
             payload: lower,
         };
-        return found(n, operate_given(message, literals, j, k, v, g));
+        return found(operate_given(message, literals, j, k, v, g), n);
     }
     if j < 8 {
         return turn(n, j, k, (lower % 65536) as u16, g, pile);
     }
-    found(n, negate_given(k, g))
+    found(negate_given(k, g), n)
 }
 
 fn goes_on(w: Walk, levels: u16, room: usize) -> bool
@@ -180,7 +180,7 @@ fn walk_on<'a>(
     pile: &mut [u64],
 ) -> Walk
     requires { ⌜ from .top ≤ length (now pile) ⌝ }
-    ensures { λ r. ⌜ WalkedOn (asked (now (words .entry)) (now (literals .entry)) (now (message .entry)) (now (slots .entry)) levels) (now (pile .entry)) from (now (pile .exit)) r ⌝ }
+    ensures { λ r. ⌜ Rested (asked (now (words .entry)) (now (literals .entry)) (now (message .entry)) (now (slots .entry)) levels) (now (pile .entry)) from (now (pile .exit)) r ⌝ }
 {
     let rules = rule_count(words);
     let mut w = from;
@@ -242,7 +242,7 @@ pub(crate) fn walked<'a>(
         return leaf(slots, kind, k, a, b);
     }
     let mut pile = [0u64; 16];
-    let first = due(0, k);
+    let first = due(k, 0);
     let w = walk_on(words, literals, message, slots, levels, first, &mut pile);
     if w.due {
         return walk_deeper(words, literals, message, slots, levels, w, &pile);

@@ -110,7 +110,7 @@ unfoldable pub exprWith : ℕ → List ℕ → ℕ → Expr
 exprWith zero words k = bool k false
 exprWith (suc fuel) words k = exprOf (exprWith fuel words) k (nodeAt words k)
 
--- 'K nodes (1 to 1,024)': no tree is followed deeper. proofs/Decode.antt shows that this changes nothing for a node below 1,024, whatever the table
+-- 'K nodes (1 to 1,024)': no expression is followed deeper. proofs/Decode.antt shows that this changes nothing for a node below 1,024, whatever the table
 abbrev pub levelsOf : ℕ → ℕ
 levelsOf k = min (suc k) 1024
 

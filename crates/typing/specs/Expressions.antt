@@ -1,7 +1,7 @@
 -- The walk over an expression, as laws' Pile has it: what is still to do stands as what comes of it. Assumes nothing.
 use mathlib.Core.Path.{_≡_}
 use mathlib.Core.List.{List}
-use mathlib.Core.Bool.{Bool, true, false, cond}
+use mathlib.Core.Bool.{true, false, cond}
 use Prim.Native.Nat.{ℕ, _+_, _*_, _-_, _/_, _%_, _<_, _≤_}
 use lib.Dec.{ltb, eqb}
 use lib.ListN.{length}

@@ -108,7 +108,7 @@ fn found(t: u16, top: usize) -> Judging
     }
 }
 
-// A node is due: an operator goes to work, and its first operand is due.
+// A node is due: an operator goes to work, and its first operand is due. From 20 on all kinds are operators: no table that passes the check has one past 28.
 fn judge(words: &[u16], pile: &mut [u64], slots: u64, w: Judging) -> Judging
     requires { ⌜ Judges (now words) (now pile) w × (w .due ≡ true) ⌝ }
     ensures { λ r. ⌜ JudgedOn (now (words .entry)) slots (now (pile .entry)) w (now (pile .exit)) r ⌝ }
@@ -146,7 +146,7 @@ fn apply(words: &[u16], pile: &mut [u64], slots: u64, w: Judging) -> Judging
     found(operator_type(code - 32, number, t), last)
 }
 
-// The type of node k; a node that is no expression stands for a Bool, and no table that passes the check has one here.
+// The type of node k. A node below 20 that is no expression stands for a Bool, and no table that passes the check has one here.
 pub(crate) fn expression_type(words: &[u16], pile: &mut [u64], slots: u64, k: u16) -> u16
     requires { ⌜ CheckedNode (now words) (length (now pile)) k ⌝ }
     ensures { λ r. ⌜ r ≡ exprType (typesIn slots) (exprAt (now (words .entry)) k) ⌝ }

@@ -6,7 +6,7 @@ ghost use Prim.Native.Nat.{_<_, _+_};
 ghost use lib.Dec.{ltb, eqb};
 ghost use lib.ListN.{length};
 ghost use Rattle.laws.specs.Same.{same};
-ghost use Rattle.grammar.specs.Words.{kindAt, nodeWord, returnedCount, ruleWord};
+ghost use Rattle.grammar.specs.Words.{nodeWord, returnedCount, ruleWord};
 ghost use Rattle.grammar.specs.Tree.{grammarOf, parsingAt};
 ghost use Rattle.grammar.specs.Types.{assign, provided, typeOf};
 ghost use Rattle.typing.specs.Checked.{CheckedKind, CheckedNode, CheckedRule};
