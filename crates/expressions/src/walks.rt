@@ -59,7 +59,8 @@ fn put_to_work(n: u16, upper: u32, lower: u32, k: u16, pile: &mut [u64]) -> Walk
     due(k, n + 1)
 }
 
-// A node is due: `levels` levels of nodes are looked at, and what lies deeper counts as false.
+// A node is due: an operator, kinds 20 to 28, goes to work, and its left or only operand is due ("left operand first"). `levels` levels of nodes are looked at; what lies deeper, or
+// has a number that is no expression's kind, counts as false.
 fn enter(words: &[u16], slots: &[u32], rules: u16, levels: u16, w: Walk, pile: &mut [u64]) -> Walk
     requires { ⌜ (rules ≡ ruleCount (now words)) × (w .due ≡ true) × (w .top ≤ length (now pile)) × (w .top < levels → w .top < length (now pile)) ⌝ }
     ensures { λ r. ⌜ Entered (now (pile .entry)) (now (pile .exit)) r (now (words .entry)) (now (slots .entry)) levels w ⌝ }
@@ -106,7 +107,7 @@ fn turn(n: u16, j: u32, k: u16, b: u16, v: Given, pile: &mut [u64]) -> Walk
     put_to_work(n, upper, v.payload, b, pile)
 }
 
-// A value was found, and goes to the operator on top.
+// A value was found, and goes to the operator on top: as its right one, and it operates ("types are looked at after the operands"); as its left one; or to a not.
 fn resume<'a>(literals: &'a [u8], message: &'a [u8], w: Walk, pile: &mut [u64]) -> Walk
     requires { ⌜ (w .due ≡ false) × (w .tag < 5) × (0 < w .top) × (w .top ≤ length (now pile)) ⌝ }
     ensures { λ r. ⌜ Resumed (now (pile .entry)) (now (pile .exit)) r (now (literals .entry)) (now (message .entry)) w ⌝ }
@@ -135,6 +136,7 @@ fn resume<'a>(literals: &'a [u8], message: &'a [u8], w: Walk, pile: &mut [u64]) 
     found(negate_given(k, g), n)
 }
 
+// Until the result is there: a value that no operator waits for, or why the run ends (tags from 5 on). It stops too where a node is due and the pile has no place for it.
 fn goes_on(w: Walk, levels: u16, room: usize) -> bool
     ensures { λ r. ⌜ r ≡ goesOn levels room w ⌝ }
 {
