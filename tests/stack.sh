@@ -1,8 +1,8 @@
 #!/usr/bin/env bash
-# stack.sh: computes how much stack a call of each exported function takes, at most, on x86-64 and on aarch64 (and on the processor at hand, where it is another; the kit's
-# compiler compiles for each of them on every machine). The proved module is compiled as for the library that is called there: on x86-64 the object is the shipped one byte
-# for byte, on the processor at hand the one that the tests link. Of each function the compiler tells the frame (-fstack-usage), the code what it does with the stack
-# pointer on every way through it, and what it calls (tests/src/bound). One line an exported function: bytes and the deepest chain.
+# stack.sh: computes how much stack a call of each exported function takes, at most, on x86-64 and on aarch64 (the kit's compiler compiles for both on every machine;
+# on a machine with another processor it fails, since the code there can't be read here). The proved module is compiled as for the library that is called there: on x86-64
+# the object is the shipped one byte for byte, on the processor at hand the one that the tests link. Of each function the compiler tells the frame (-fstack-usage), the
+# code what it does with the stack pointer on every way through it, and what it calls (tests/src/bound). One line an exported function: bytes and the deepest chain.
 # It fails where a function's frame has no one size or the compiler says nothing of it; at a cycle in the calls that tests/stack/cycles doesn't name, and a named one that
 # isn't there; at a call that names no function, and one of a function outside that isn't on the list below; at memory of the module's own that can be written; where the
 # functions aren't those of docs/styrmflo.h; over 16,384 bytes; and where the table in docs/FIRMWARE.md says something else.
@@ -35,7 +35,7 @@ same() { # LIBRARY OBJECT
 
 here=$(uname -m)
 processors=(x86_64 aarch64)
-[[ " ${processors[*]} " == *" $here "* ]] || processors+=("$here")
+[[ " ${processors[*]} " == *" $here "* ]] || { echo "$here: its code can't be read here"; exit 1; }
 made=${folder:-$top/target/stack}
 mkdir -p "$made"
 module=$(tests/module.sh)

@@ -1,5 +1,8 @@
-//! Gives the console program the tables of deep_tables that are right, each as
-//! deep as 1,024 nodes allow, and compares what it prints with the reference.
+//! Gives the console program those tables of deep_tables that have nothing wrong or
+//! faulty at their bottom, and compares what it prints with the reference. Most nest
+//! as deep as 1,024 nodes allow. Some have as many levels as a run can go down, and
+//! one more; some are random trees. Nests of greaters and some of the trees break the
+//! type rules: those run in bench mode, which doesn't ask.
 //! READER_CONSOLE is the command that starts it (tests/console_command.sh prints it).
 //!
 //! The program keeps its input, the table and the work area on its stack, far more
@@ -21,6 +24,10 @@ use std::path::Path;
 /// may, at random.
 const LITTLE: usize = 16;
 const MOST: usize = 8_192;
+
+/// What the program keeps on its stack takes far more: where less is enough, the stack
+/// isn't limited, or it isn't the program.
+const LEAST: usize = 100;
 
 const BUDGET: u32 = 5_000;
 
@@ -68,26 +75,30 @@ fn input(deep: &Deep) -> String {
     )
 }
 
+/// The command as it is started here, and with how much stack.
+fn started(command: &str, room: &Path) -> Result<(String, String), String> {
+    if !cfg!(target_arch = "x86_64") {
+        return Ok((command.to_string(), "its stack as it comes".to_string()));
+    }
+    let least = least(command, room);
+    if least < LEAST {
+        return Err(format!(
+            "the smallest table on {least} KB of stack: less than the program must take"
+        ));
+    }
+    let limit = least + LITTLE;
+    let how = format!("on {limit} KB of stack, {LITTLE} more than the smallest takes");
+    Ok((limited(command, limit), how))
+}
+
 /// How many inputs were answered as they must be.
 fn compare(command: &str, room: &Path) -> Result<String, String> {
-    let (command, how) = match cfg!(target_arch = "x86_64") {
-        true => {
-            let least = least(command, room);
-            let limit = least + LITTLE;
-            (
-                limited(command, limit),
-                format!("on {limit} KB of stack, {LITTLE} more than the smallest takes"),
-            )
-        }
-        false => (command.to_string(), "its stack as it comes".to_string()),
-    };
+    let (command, how) = started(command, room)?;
     let program = Program::new(&command, room);
     let reference = Reference { work_words: 0 };
     let mut count = 0;
-    for deep in tables::all().iter().map(|make| make()) {
-        if !deep.plain {
-            continue;
-        }
+    let all = tables::all();
+    for deep in all.iter().map(|make| make()).filter(|deep| deep.plain) {
         let input = input(&deep).into_bytes();
         let told = |what: String| format!("{}, {how}: {what}", deep.name);
         let given = program.respond(&input).map_err(told)?;

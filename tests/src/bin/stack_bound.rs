@@ -5,7 +5,7 @@
 //! PROCESSOR.o; the header that declares the functions; the named cycles; and
 //! what may be called outside, each as NAME=BYTES. tests/stack.sh calls it.
 
-use reader_tests::bound::{bounds, Module};
+use reader_tests::bound::{bounds, Bound, Module};
 use std::collections::{BTreeMap, BTreeSet};
 
 fn file(path: &str) -> Vec<u8> {
@@ -50,19 +50,22 @@ fn main() {
         outside,
         cycles: &text(cycles),
     });
-    for bound in &all {
-        let chain: Vec<String> = bound
-            .chain
-            .iter()
-            .map(|(name, bytes)| format!("{name} {bytes}"))
-            .collect();
-        println!("{} {} {}", bound.function, bound.bytes, chain.join(" + "));
+    let lines = all.iter().map(line);
+    let wrong = wrong.iter().map(|told| format!("{processor}, {told}"));
+    let failed = all.is_empty() || wrong.len() > 0;
+    let last = failed.then(|| format!("{processor}: no bound"));
+    for line in lines.chain(wrong).chain(last) {
+        println!("{line}");
     }
-    for told in &wrong {
-        println!("{processor}, {told}");
-    }
-    if all.is_empty() || !wrong.is_empty() {
-        println!("{processor}: no bound");
+    if failed {
         std::process::exit(1);
     }
+}
+
+fn line(bound: &Bound) -> String {
+    let chain = bound.chain.iter();
+    let chain: Vec<String> = chain
+        .map(|(name, bytes)| format!("{name} {bytes}"))
+        .collect();
+    format!("{} {} {}", bound.function, bound.bytes, chain.join(" + "))
 }

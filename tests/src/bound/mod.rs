@@ -1,15 +1,19 @@
 //! How much stack the exported functions of a compiled module take, at most:
 //! read from what the compiler says of each frame and from the code it made.
 
+mod aarch64;
 pub mod assembly;
 pub mod graph;
 pub mod object;
 pub mod processors;
+pub mod ways;
+mod x86_64;
 
-use graph::Graph;
+use graph::graph;
 use std::collections::{BTreeMap, BTreeSet};
+use ways::Function;
 
-/// What the issue allows an exported function.
+/// The most that an exported function may take.
 pub const MOST: usize = 16_384;
 
 /// All that is looked at.
@@ -37,48 +41,57 @@ pub struct Bound {
 
 /// A line an exported function, and all that is wrong.
 pub fn bounds(module: &Module) -> (Vec<Bound>, Vec<String>) {
-    let mut wrong = Vec::new();
     let Some(processor) = processors::named(module.processor) else {
-        return (
-            Vec::new(),
-            vec![format!("{}: its code can't be read here", module.processor)],
-        );
+        let told = format!("{}: its code can't be read here", module.processor);
+        return (Vec::new(), vec![told]);
     };
-    let mut functions = assembly::functions(&processor, module.assembly, &mut wrong);
     let object = match object::read(module.object) {
         Ok(object) => object,
         Err(told) => return (Vec::new(), vec![told]),
     };
+    let mut wrong = Vec::new();
+    let functions = assembly::functions(&processor, module.assembly, &mut wrong);
     wrong.extend(not_in_both(&functions, &object));
-    held_to_the_compiler(&mut functions, module.usage, &mut wrong);
-    for name in &object.written {
-        wrong.push(format!("{name}: memory of its own that can be written"));
-    }
-    for name in &object.missing {
-        if !module.outside.contains_key(name) {
-            wrong.push(format!("{name}: called outside, and not on the list"));
-        }
-    }
-    for name in object.exported.difference(&module.declared) {
-        wrong.push(format!("{name}: exported, and not in the header"));
-    }
-    for name in module.declared.difference(&object.exported) {
-        wrong.push(format!("{name}: in the header, and not exported"));
-    }
-    let graph = Graph::new(&functions, processor.return_address, module, &mut wrong);
-    let mut all = Vec::new();
-    for name in &object.exported {
-        let bound = graph.deepest(name);
-        if bound.bytes > MOST {
-            wrong.push(format!("{name}: {} bytes, over {MOST}", bound.bytes));
-        }
-        all.push(bound);
-    }
+    let said = said_by_the_compiler(module.usage, &mut wrong);
+    let other_frames = functions.iter();
+    wrong.extend(other_frames.filter_map(|function| not_as_said(function, &said)));
+    wrong.extend(not_as_declared(&object, module));
+    let graph = graph(&functions, processor.return_address, module, &mut wrong);
+    let exported = object.exported.iter();
+    let all: Vec<Bound> = exported.map(|name| graph.deepest(name)).collect();
+    let over = all.iter().filter(|bound| bound.bytes > MOST);
+    wrong.extend(over.map(
+        |Bound {
+             function, bytes, ..
+         }| { format!("{function}: {bytes} bytes, over {MOST}") },
+    ));
     (all, wrong)
 }
 
+/// What the object writes, lacks and exports, against what it may.
+fn not_as_declared(object: &object::Object, module: &Module) -> Vec<String> {
+    let told = |names: Vec<&String>, what: &str| -> Vec<String> {
+        let names = names.into_iter();
+        names.map(|name| format!("{name}: {what}")).collect()
+    };
+    let missing = object.missing.iter();
+    let unlisted = missing.filter(|name| !module.outside.contains_key(*name));
+    let undeclared = object.exported.difference(&module.declared);
+    let unexported = module.declared.difference(&object.exported);
+    [
+        told(
+            object.written.iter().collect(),
+            "memory of its own that can be written",
+        ),
+        told(unlisted.collect(), "called outside, and not on the list"),
+        told(undeclared.collect(), "exported, and not in the header"),
+        told(unexported.collect(), "in the header, and not exported"),
+    ]
+    .concat()
+}
+
 /// The functions of the assembly are those of the object.
-fn not_in_both(functions: &[assembly::Function], object: &object::Object) -> Vec<String> {
+fn not_in_both(functions: &[Function], object: &object::Object) -> Vec<String> {
     let read: BTreeSet<String> = functions.iter().map(|f| f.name.clone()).collect();
     let differ = read.symmetric_difference(&object.functions);
     differ
@@ -86,40 +99,40 @@ fn not_in_both(functions: &[assembly::Function], object: &object::Object) -> Vec
         .collect()
 }
 
-/// The compiler gives every function a frame of one size. It doesn't count what
-/// a function that calls nothing keeps below the stack pointer, nor arguments
-/// that are pushed for a call: the code may take more than the compiler says,
-/// and the larger counts. It never takes less.
-fn held_to_the_compiler(
-    functions: &mut [assembly::Function],
-    usage: &str,
-    wrong: &mut Vec<String>,
-) {
+/// The frames, by function. The compiler gives every function one of one size.
+fn said_by_the_compiler(usage: &str, wrong: &mut Vec<String>) -> BTreeMap<String, usize> {
     let mut said = BTreeMap::new();
     for line in usage.lines() {
-        let words: Vec<&str> = line.split('\t').collect();
-        let (Some(name), Some(Ok(bytes)), Some(&"static")) = (
-            words.first().and_then(|word| function_of(word)),
-            words.get(1).map(|word| word.parse::<usize>()),
-            words.get(2),
-        ) else {
-            wrong.push(format!("{line}: no frame of one size"));
-            continue;
+        match frame(line) {
+            Some((name, bytes)) => said.insert(name.to_string(), bytes),
+            None => {
+                wrong.push(format!("{line}: no frame of one size"));
+                continue;
+            }
         };
-        said.insert(name.to_string(), bytes);
     }
-    for function in functions {
-        match said.get(&function.name) {
-            None => wrong.push(format!(
-                "{}: the compiler says nothing of its frame",
-                function.name
-            )),
-            Some(&bytes) if bytes > function.moved => wrong.push(format!(
-                "{}: a frame of {bytes} bytes, but its code takes {}",
-                function.name, function.moved
-            )),
-            Some(_) => {}
-        }
+    said
+}
+
+fn frame(line: &str) -> Option<(&str, usize)> {
+    let words: Vec<&str> = line.split('\t').collect();
+    match words[..] {
+        [name, bytes, "static", ..] => Some((function_of(name)?, bytes.parse().ok()?)),
+        _ => None,
+    }
+}
+
+/// The compiler doesn't count what a function that calls nothing keeps below the
+/// stack pointer, nor arguments that are pushed for a call: the code may take more
+/// than the compiler says, and the larger counts. It never takes less.
+fn not_as_said(function: &Function, said: &BTreeMap<String, usize>) -> Option<String> {
+    let (name, moved) = (&function.name, function.moved);
+    match said.get(name) {
+        None => Some(format!("{name}: the compiler says nothing of its frame")),
+        Some(&bytes) if bytes > moved => Some(format!(
+            "{name}: a frame of {bytes} bytes, but its code takes {moved}"
+        )),
+        Some(_) => None,
     }
 }
 

@@ -1,5 +1,5 @@
-//! Tables that nest as deep as 1,024 nodes allow, and the exported functions
-//! called with them on a stack of a few kilobytes.
+//! Tables that nest as deep as 1,024 nodes allow, and others less deep; and the
+//! exported functions called with them on a stack of a few kilobytes.
 
 pub mod nests;
 #[cfg(feature = "library")]

@@ -1,6 +1,6 @@
 //! The exported functions of the linked library, called on a small stack.
 
-use super::stack::Stack;
+use super::stack::{Stack, Used};
 use crate::exported::{Exports, WORK_WORDS};
 use crate::library;
 use crate::reference::run::Lent;
@@ -39,7 +39,7 @@ fn address(function: usize) -> *const c_void {
 
 pub struct OnStack {
     stack: Stack,
-    seen: RefCell<[Option<usize>; NAMES.len()]>,
+    seen: RefCell<[Option<Used>; NAMES.len()]>,
 }
 
 impl OnStack {
@@ -50,9 +50,9 @@ impl OnStack {
         }
     }
 
-    /// The most bytes that each function was seen to use; nothing for one that
-    /// wasn't called.
-    pub fn seen(&self) -> [Option<usize>; NAMES.len()] {
+    /// The most that each function was seen to use; nothing for one that wasn't
+    /// called.
+    pub fn seen(&self) -> [Option<Used>; NAMES.len()] {
         *self.seen.borrow()
     }
 
@@ -61,7 +61,7 @@ impl OnStack {
     unsafe fn call(&self, function: usize, words: &[u64]) -> u64 {
         let (returned, used) = self.stack.call(address(function), words);
         let seen = &mut self.seen.borrow_mut()[function];
-        *seen = Some(seen.unwrap_or(0).max(used));
+        *seen = Some(seen.unwrap_or_default().or(used));
         returned
     }
 }

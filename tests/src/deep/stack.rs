@@ -1,6 +1,6 @@
 //! A stack of a given size, with memory right below it that nobody may touch,
-//! and calls that run on it. A thread can't have one so small: the least size
-//! of a thread's stack is larger, and its own beginnings stand on it.
+//! and calls that run on it. A thread can't do for it: the least size of a
+//! thread's stack may be larger, and its own beginnings stand on it.
 
 use std::arch::global_asm;
 use std::ffi::c_void;
@@ -95,6 +95,25 @@ const TAKEN: usize = 32;
 /// Stands on the stack before a call.
 const PAINT: u8 = 0xa5;
 
+/// What a call has done to the stack below its caller's part.
+#[derive(Clone, Copy, Default)]
+pub struct Used {
+    /// How far down it goes to the lowest byte that was changed.
+    pub down: usize,
+    /// How many bytes were changed.
+    pub changed: usize,
+}
+
+impl Used {
+    /// The larger of each.
+    pub fn or(self, other: Used) -> Used {
+        Used {
+            down: self.down.max(other.down),
+            changed: self.changed.max(other.changed),
+        }
+    }
+}
+
 pub struct Stack {
     mapped: *mut c_void,
     mapped_bytes: usize,
@@ -129,20 +148,23 @@ impl Stack {
         }
     }
 
-    /// What the function returned, and how many bytes of the stack below the
-    /// caller's it has changed, down to the lowest.
+    /// What the function returned, and what of the stack it has used.
     ///
     /// # Safety
     /// The words are such as the function may be called with.
-    pub unsafe fn call(&self, function: *const c_void, words: &[u64]) -> (u64, usize) {
+    pub unsafe fn call(&self, function: *const c_void, words: &[u64]) -> (u64, Used) {
         let mut all = [0; MOST_WORDS];
         all[..words.len()].copy_from_slice(words);
         std::ptr::write_bytes(self.lowest, PAINT, self.bytes);
         let top = self.lowest.add(self.bytes);
         let returned = styrmflo_tests_call_on(top, function, all.as_ptr());
-        let painted = std::slice::from_raw_parts(self.lowest, self.bytes);
+        let painted = std::slice::from_raw_parts(self.lowest, self.bytes - TAKEN);
         let untouched = painted.iter().take_while(|&&byte| byte == PAINT).count();
-        (returned, (self.bytes - TAKEN).saturating_sub(untouched))
+        let used = Used {
+            down: painted.len() - untouched,
+            changed: painted.iter().filter(|&&byte| byte != PAINT).count(),
+        };
+        (returned, used)
     }
 }
 

@@ -109,59 +109,70 @@ impl Place {
 
     /// Completes a table that has just the expression.
     pub(super) fn complete(self, draft: &mut Draft, expression: u16, whole: u16) {
-        let leaves = |draft: &mut Draft, count: usize| -> Vec<u16> {
-            (0..count).map(|_| draft.node(BOOL, &[1])).collect()
-        };
         match self {
-            Place::Constraint => {
-                let holds = match whole {
-                    BOOL_TYPE => expression,
-                    _ => {
-                        let least = draft.node(INTEGER, &[0x8000, 0]);
-                        draft.node(GREATER, &[expression, least])
-                    }
-                };
-                let body = draft.node(CONSTRAINT, &[holds]);
-                draft.rule(body, &[], &[]);
-            }
-            Place::Update => {
-                let body = draft.node(UPDATE, &[0, expression]);
-                let slot = draft.node(SLOT, &[0]);
-                draft.rule(body, &[], &[(slot, whole)]);
-            }
-            Place::Argument(before) => {
-                let mut fields = [0; 9];
-                fields[0] = 1;
-                let others = leaves(draft, before);
-                fields[1..1 + before].copy_from_slice(&others);
-                fields[1 + before] = expression;
-                fields[5] = 5;
-                let call = draft.node(CALL, &fields);
-                let received = draft.node(SLOT, &[5]);
-                let body = draft.node(EMPTY, &[]);
-                let slot = draft.node(SLOT, &[before as u16]);
-                let mut inherited = vec![BOOL_TYPE; before];
-                inherited.push(whole);
-                draft.rule(call, &[], &[(received, whole)]);
-                draft.rule(body, &inherited, &[(slot, whole)]);
-            }
-            Place::Returned(before) => {
-                let others = leaves(draft, before);
-                let mut returned: Vec<(u16, u16)> =
-                    others.iter().map(|&node| (node, BOOL_TYPE)).collect();
-                returned.push((expression, whole));
-                let body = draft.node(EMPTY, &[]);
-                draft.rule(body, &[], &returned);
-            }
-            Place::ReturnedByCallee => {
-                let call = draft.node(CALL, &[1, 0, 0, 0, 0, 2]);
-                let received = draft.node(SLOT, &[2]);
-                let body = draft.node(EMPTY, &[]);
-                draft.rule(call, &[], &[(received, whole)]);
-                draft.rule(body, &[], &[(expression, whole)]);
-            }
+            Place::Constraint => constraint(draft, expression, whole),
+            Place::Update => update(draft, expression, whole),
+            Place::Argument(before) => argument(draft, expression, whole, before),
+            Place::Returned(before) => returned(draft, expression, whole, before),
+            Place::ReturnedByCallee => returned_by_callee(draft, expression, whole),
         }
     }
+}
+
+fn constraint(draft: &mut Draft, expression: u16, whole: u16) {
+    let holds = match whole {
+        BOOL_TYPE => expression,
+        _ => {
+            let least = draft.node(INTEGER, &[0x8000, 0]);
+            draft.node(GREATER, &[expression, least])
+        }
+    };
+    let body = draft.node(CONSTRAINT, &[holds]);
+    draft.rule(body, &[], &[]);
+}
+
+fn update(draft: &mut Draft, expression: u16, whole: u16) {
+    let body = draft.node(UPDATE, &[0, expression]);
+    let slot = draft.node(SLOT, &[0]);
+    draft.rule(body, &[], &[(slot, whole)]);
+}
+
+fn argument(draft: &mut Draft, expression: u16, whole: u16, before: usize) {
+    let mut fields = [0; 9];
+    fields[0] = 1;
+    let others = leaves(draft, before);
+    fields[1..1 + before].copy_from_slice(&others);
+    fields[1 + before] = expression;
+    fields[5] = 5;
+    let call = draft.node(CALL, &fields);
+    let received = draft.node(SLOT, &[5]);
+    let body = draft.node(EMPTY, &[]);
+    let slot = draft.node(SLOT, &[before as u16]);
+    let mut inherited = vec![BOOL_TYPE; before];
+    inherited.push(whole);
+    draft.rule(call, &[], &[(received, whole)]);
+    draft.rule(body, &inherited, &[(slot, whole)]);
+}
+
+fn returned(draft: &mut Draft, expression: u16, whole: u16, before: usize) {
+    let others = leaves(draft, before).into_iter();
+    let mut all: Vec<(u16, u16)> = others.map(|node| (node, BOOL_TYPE)).collect();
+    all.push((expression, whole));
+    let body = draft.node(EMPTY, &[]);
+    draft.rule(body, &[], &all);
+}
+
+fn returned_by_callee(draft: &mut Draft, expression: u16, whole: u16) {
+    let call = draft.node(CALL, &[1, 0, 0, 0, 0, 2]);
+    let received = draft.node(SLOT, &[2]);
+    let body = draft.node(EMPTY, &[]);
+    draft.rule(call, &[], &[(received, whole)]);
+    draft.rule(body, &[], &[(expression, whole)]);
+}
+
+/// Other arguments, or other values that are returned.
+fn leaves(draft: &mut Draft, count: usize) -> Vec<u16> {
+    (0..count).map(|_| draft.node(BOOL, &[1])).collect()
 }
 
 /// Where a parsing nest can stand: in the body of the start rule, of a rule that
@@ -384,54 +395,71 @@ fn spoiled(deep: &Deep, node: usize, where_: &str) -> Deep {
 pub type Maker = Box<dyn Fn() -> Deep>;
 
 pub fn all() -> Vec<Maker> {
-    let mut all: Vec<Maker> = Vec::new();
-    for nest in &PARSING {
-        bodies(nest, &mut all);
-    }
-    for nest in EXPRESSIONS.iter().chain(&GREATERS) {
-        for place in PLACES {
-            all.push(Box::new(move || an_expression(nest, place, Plain)));
-        }
-        let texts = (nest.given == BOOL_TYPE).then_some(Texts);
-        for what in [Faulty, Unset, Wrong].into_iter().chain(texts) {
-            for place in [PLACES[0], PLACES[3], PLACES[6]] {
-                all.push(Box::new(move || an_expression(nest, place, what)));
-            }
-        }
-    }
-    all.push(Box::new(calling_itself));
-    all.push(Box::new(calling_the_next));
-    all.extend(trees::all());
-    all
+    let expressions = EXPRESSIONS.iter().chain(&GREATERS);
+    let calls: [Maker; 2] = [Box::new(calling_itself), Box::new(calling_the_next)];
+    let nests = PARSING.iter().flat_map(bodies);
+    nests
+        .chain(expressions.flat_map(expressions_of))
+        .chain(calls)
+        .chain(trees::all())
+        .collect()
 }
 
-fn bodies(nest: &'static Nest, all: &mut Vec<Maker>) {
+/// Those that have this in their name.
+pub fn with(part: &str) -> Vec<Maker> {
+    let has_it = |make: &Maker| part.is_empty() || make().name.contains(part);
+    all().into_iter().filter(has_it).collect()
+}
+
+fn expressions_of(nest: &'static Nest) -> Vec<Maker> {
+    let one = |place, what| Box::new(move || an_expression(nest, place, what)) as Maker;
+    let texts = (nest.given == BOOL_TYPE).then_some(Texts);
+    let others = [Faulty, Unset, Wrong].into_iter().chain(texts);
+    let some_places = [PLACES[0], PLACES[3], PLACES[6]];
+    let plain = PLACES.map(|place| one(place, Plain));
+    let others = others.flat_map(|what| some_places.map(|place| one(place, what)));
+    plain.into_iter().chain(others).collect()
+}
+
+fn bodies(nest: &'static Nest) -> Vec<Maker> {
+    let one = |rule, what, most| Box::new(move || a_body(nest, rule, what, most)) as Maker;
     let deepest = MOST_DEPTH as usize;
-    for rule in BODIES {
-        all.push(Box::new(move || a_body(nest, rule, Plain, None)));
-    }
-    for what in [Wrong, Faulty] {
-        all.push(Box::new(move || a_body(nest, 0, what, None)));
-        all.push(Box::new(move || a_body(nest, 1, what, None)));
-        all.push(Box::new(move || a_body(nest, 0, what, Some(deepest - 4))));
-    }
+    let plain = BODIES.map(|rule| one(rule, Plain, None));
+    let others = [Wrong, Faulty].map(|what| {
+        [
+            one(0, what, None),
+            one(1, what, None),
+            one(0, what, Some(deepest - 4)),
+        ]
+    });
     // the start body has depth 1: with one node less than the deepest around it the
     // innermost is the last that a run comes to, with as many it is too deep
-    for levels in [deepest - 1, deepest] {
-        all.push(Box::new(move || a_body(nest, 0, Plain, Some(levels))));
-    }
-    for inner in [0, 1, 2, 15].map(|index: usize| &EXPRESSIONS[index]) {
-        all.push(Box::new(move || halves(nest, inner, 200)));
-        all.push(Box::new(move || halves(nest, inner, deepest - 3)));
-    }
-    for outermost in [false, true] {
-        all.push(Box::new(move || {
-            let deep = a_body(nest, 0, Plain, None);
-            let last = usize::from(deep.words[1]) - 1;
-            match outermost {
-                true => spoiled(&deep, last, "last"),
-                false => spoiled(&deep, 0, "first"),
-            }
-        }));
-    }
+    let runs = [deepest - 1, deepest].map(|levels| one(0, Plain, Some(levels)));
+    let plain = plain.into_iter().chain(others.into_iter().flatten());
+    plain
+        .chain(runs)
+        .chain(halves_of(nest))
+        .chain(spoiled_of(nest))
+        .collect()
+}
+
+fn halves_of(nest: &'static Nest) -> impl Iterator<Item = Maker> {
+    let one = move |inner, levels| Box::new(move || halves(nest, inner, levels)) as Maker;
+    let inner = [0, 1, 2, 15].map(|index: usize| &EXPRESSIONS[index]);
+    let levels = [200, MOST_DEPTH as usize - 3];
+    inner
+        .into_iter()
+        .flat_map(move |inner| levels.map(|levels| one(inner, levels)))
+}
+
+fn spoiled_of(nest: &'static Nest) -> [Maker; 2] {
+    let whole = || a_body(nest, 0, Plain, None);
+    let last = |deep: &Deep| usize::from(deep.words[1]) - 1;
+    [
+        Box::new(move || spoiled(&whole(), 0, "first")),
+        Box::new(move || {
+            let deep = whole();
+            spoiled(&deep, last(&deep), "last")
+        }),
+    ]
 }

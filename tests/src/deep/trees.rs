@@ -1,5 +1,7 @@
-//! Random expressions of every height, most of them between shallow and deep: the
-//! operators, on which side the next one stands, and what stands beside it.
+//! Random expressions of 1 to 254 levels: the operators, on which side the next one
+//! stands, and what stands beside it. Most have between 10 and 24 levels: somewhere
+//! between shallow and deep code may change how it keeps what is pending, and this
+//! library does so after 16.
 
 use super::tables::{drafted, finished, Maker, Place, PLACES};
 use crate::numbers::DONE;
