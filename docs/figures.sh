@@ -79,6 +79,10 @@ default_count() { # FILE PATTERN: the number in a line of Rust
     [ ! -f "$1" ] || sed -nE "s/.*$2.*/\1/p" "$1" | tr -d _ | head -n 1
 }
 
+logged() { # PATTERN: the number in a line of the log
+    sed -nE "s/$1/\\1/p" "$log" | tail -n 1 | grep . || echo '–'
+}
+
 tried() {
     local random shipped consoles
     shipped=$(default_count tests/src/bin/shipped_comparison.rs 'asked\(0, ([0-9_]+)\)')
@@ -105,6 +109,7 @@ tried() {
     echo "| random cases, compared through the shipped archive, called from C | ${shipped:-–} |"
     echo "| kinds tried as a node's first word | 65536 |"
     echo "| random inputs, compared through the console program | ${consoles:-–} |"
+    echo "| deep tables and random trees, through each exported function on 24 KB of stack; through the console program | $(logged '^([0-9]+) tables, [0-9]+ trials on 24576 .*'); $(logged '^([0-9]+) deep tables through the console program.*') |"
 }
 
 gate() {
