@@ -39,9 +39,6 @@ wrote-then {l} {l₁} {l₂} {a} {b} {at} {r₁} {r₂} h x y =
 pub wrote-as : {l l₁ a b : List ℕ} {at r : ℕ} → a ≡ b → Wrote l at a r l₁ → Wrote l at b r l₁
 wrote-as {l} {l₁} {a} {b} {at} {r} e x = subst (λ (z : List ℕ). Wrote l at z r l₁) e x
 
-pub wrote-length : {l l₁ a : List ℕ} {at r : ℕ} → Wrote l at a r l₁ → length l₁ ≡ length l
-wrote-length {l} {l₁} {a} {at} {r} x = ap length (x .stored) ∙ length-sets l at a
-
 -- what a pass over an empty slice leaves of the slice whose front it is
 pub nothing-stored : {x numbers : List ℕ} {at r : ℕ} → Wrote [] at numbers r x → (l : List ℕ) → x ++ l ≡ l
 nothing-stored {x} {numbers} {at} w l = ap (λ (z : List ℕ). z ++ l) (w .stored ∙ sets-past [] at numbers (omega arith))
