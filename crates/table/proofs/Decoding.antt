@@ -62,6 +62,13 @@ module _ (kind a b : ℕ) where
       (past 28 (past 27 (past 26 (past 25 (past 24 (past 23 (past 22 (past 21 (past 20 (past 19 (past 18 (past 17 (past 16 h n16) n17) n18) n19) n20) n21) n22) n23) n24) n25) n26) n27) n28))
 
 module _ (words : List ℕ) (k : ℕ) where
+  -- a node whose kind is known: its fields are read, and no others matter
+  pub node-of : (kind : ℕ) → kindAt words k ≡ kind
+      → let field : ℕ → ℕ = nodeWord words k in
+      nodeAt words k ≡ nodeFor kind (field 1) (field 2) (field 3) (field 4) (field 5) (field 6) (field 7) (field 8) (field 9)
+  unfolding nodeAt
+  node-of kind e = rw e
+
   pub node-call : kindAt words k ≡ 7 → callAt words k ≡ nodeAt words k
   unfolding nodeAt nodeFor nodes
   node-call e = rw e

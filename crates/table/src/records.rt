@@ -1,7 +1,7 @@
 // Where the records of a table lie, and what stands there. Only this module knows it; each function answers every number, 0 past the table's end.
 ghost use mathlib.Core.Path.{_≡_};
 ghost use Prim.Native.Nat.{_+_, _*_, _<_, _≤_};
-ghost use Rattle.grammar.specs.Words.{inheritedCount, literalCount, nodeAt, nodeCount, kindAt, nodeWord, returnedCount, ruleCount, ruleStart, ruleWord, word};
+ghost use Rattle.grammar.specs.Words.{inheritedCount, literalCount, nodeAt, nodeCount, nodeStart, kindAt, nodeWord, returnedCount, ruleCount, ruleStart, ruleWord, word};
 ghost use Rattle.table.specs.Fields.{callAt, nodeOfTwo};
 use grammar::Arithmetic;
 use grammar::Node;
@@ -67,6 +67,27 @@ pub fn node_word(words: &[u16], k: u16, j: u16) -> u16
     ensures { λ w. ⌜ w ≡ nodeWord (now (words .entry)) k j ⌝ }
 {
     word_at(words, node_start(rule_count(words), k) + j as usize)
+}
+
+// Where the record of node k lies: for readers that look at its kind first, and then only at the fields that this kind has.
+pub fn node_place(words: &[u16], k: u16) -> u32
+    ensures { λ place. ⌜ place ≡ nodeStart (now (words .entry)) k ⌝ }
+{
+    3 + 15 * rule_count(words) as u32 + 10 * k as u32
+}
+
+// The kind of the record at a place.
+pub fn kind_in(words: &[u16], place: u32) -> u16
+    ensures { λ w. ⌜ w ≡ word (now (words .entry)) place ⌝ }
+{
+    word_at(words, place as usize)
+}
+
+// Word j of the record at a place: fields a, b, .. are words 1 to 9.
+pub fn field_in(words: &[u16], place: u32, j: u16) -> u16
+    ensures { λ w. ⌜ w ≡ word (now (words .entry)) (place + j) ⌝ }
+{
+    word_at(words, place as usize + j as usize)
 }
 
 // "Rule record: body node; n inherited; four types; m returned; four returned nodes; four returned types."
