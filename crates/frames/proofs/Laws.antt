@@ -1,19 +1,52 @@
 -- Copies and zeros, word by word: one word more, and zeros past the end; a slot that there is, and one that there isn't. Assumes nothing.
 use mathlib.Core.Path.{_≡_, refl, ap, _∙_}
 use mathlib.Core.List.{List}
+use mathlib.Core.Logic.{⊎-elim}
 use Prim.Native.Nat.{ℕ, zero, suc, _+_, _-_, _≤_, _<_}
+use native.Mathlib.Nat.{eq-or-lt-of-le}
 use native.Mathlib.Numerals.{add-one}
 use native.Mathlib.Omega.{arith}
 use lib.ListN.{length, getD, set, length-set}
-use lib.Seq.{set-out}
+use lib.Seq.{set-out, getD-set-same, getD-set-other}
 use borrow.Author.Tests.{lt-ltb, le-ltb}
 use Rattle.grammar.specs.declared.Value.{Value}
 use Rattle.values.specs.Slots.{withSlot}
-use Rattle.frames.specs.Frames.{copied, cleared, written}
+use Rattle.frames.specs.Frames.{Taken, placed, copied, cleared, written}
 
 pub copied-more : (w : List ℕ) (from to n : ℕ) → copied w from to (n + 1) ≡ set (copied w from to n) (to + n) (getD (copied w from to n) (from + n) 0)
 unfolding copied
 copied-more w from to n = rw add-one
+
+pub placed-more : (w : List ℕ) (to : ℕ) (slots : List ℕ) (n : ℕ) → placed w to slots (n + 1) ≡ set (placed w to slots n) (to + n) (getD slots n 0)
+unfolding placed
+placed-more w to slots n = rw add-one
+
+-- one word more is taken
+pub taken-more : (w slots : List ℕ) (from i x : ℕ) → i < length slots → x ≡ getD w (from + i) 0 → ((j : ℕ) → j < i → getD slots j 0 ≡ getD w (from + j) 0)
+    → (j : ℕ) → j < i + 1 → getD (set slots i x) j 0 ≡ getD w (from + j) 0
+taken-more w slots from i x h e before j hj =
+    ⊎-elim
+    (λ (same : j ≡ i). rw same (getD-set-same slots i x 0 h ∙ e))
+    (λ (less : j < i).
+    let other : j ≡ i → ⊥ = λ q. absurd (omega arith) in
+    getD-set-other slots i j x 0 other ∙ before j less)
+    (eq-or-lt-of-le (omega arith))
+
+-- a word that lies outside stays
+placed-other : (w : List ℕ) (to : ℕ) (slots : List ℕ) (n i : ℕ) → (to ≤ i → to + n ≤ i) → getD (placed w to slots n) i 0 ≡ getD w i 0
+unfolding placed
+placed-other w to slots zero i past = refl
+placed-other w to slots (suc n) i past =
+    let other : i ≡ to + n → ⊥ = λ e. absurd (omega (arith, past (omega arith))) in
+    getD-set-other (placed w to slots n) (to + n) i (getD slots n 0) 0 other ∙ placed-other w to slots n i (λ h. omega (arith, past h))
+
+-- where the ranges lie apart, a copy is what was taken, placed
+pub copied-apart : (w : List ℕ) (from to : ℕ) (slots : List ℕ) → Taken w from slots → 32 ≤ (from - to) + (to - from) → (n : ℕ) → n ≤ 32 → placed w to slots n ≡ copied w from to n
+unfolding placed copied
+copied-apart w from to slots taken apart zero h = refl
+copied-apart w from to slots taken apart (suc n) h =
+    let before = copied-apart w from to slots taken apart n (omega arith) in
+    rw (← before, placed-other w to slots n (from + n) (λ g. omega arith), ← taken .at n (omega arith))
 
 pub cleared-more : (w : List ℕ) (n : ℕ) → cleared w (n + 1) ≡ set (cleared w n) n 0
 unfolding cleared

@@ -3,7 +3,8 @@
 -- A read past the end gives 0, a write past the end does nothing. Assumes nothing.
 use mathlib.Core.List.{List}
 use mathlib.Core.Bool.{cond}
-use Prim.Native.Nat.{ℕ, zero, suc, _+_, _*_, _%_}
+use mathlib.Core.Path.{_≡_}
+use Prim.Native.Nat.{ℕ, zero, suc, _+_, _*_, _%_, _<_}
 use lib.Dec.{ltb}
 use lib.ListN.{getD, set, take}
 use Rattle.grammar.specs.declared.Value.{Value}
@@ -17,6 +18,15 @@ base d = 32 + 38 * d
 unfoldable pub copied : List ℕ → (from to n : ℕ) → List ℕ
 copied w from to zero = w
 copied w from to (suc n) = set (copied w from to n) (to + n) (getD (copied w from to n) (from + n) 0)
+
+-- the 32 words of sixteen slots, from `from` on
+pub record Taken (w : List ℕ) (from : ℕ) (slots : List ℕ) : Type 0 where
+  pub at : (i : ℕ) → i < 32 → getD slots i 0 ≡ getD w (from + i) 0
+
+-- n words of a list, from `to` on
+unfoldable pub placed : List ℕ → (to : ℕ) → List ℕ → ℕ → List ℕ
+placed w to slots zero = w
+placed w to slots (suc n) = set (placed w to slots n) (to + n) (getD slots n 0)
 
 -- the first n words are zero
 unfoldable pub cleared : List ℕ → ℕ → List ℕ

@@ -41,7 +41,7 @@ pub fn save(work: &mut [u32], d: u16, at: u16)
 {
     let first = start(d);
     write_word(work, first + 2, at as u32);
-    words::copy(work, 0, first + 6, 32);
+    words::copy(work, 0, first + 6);
 }
 
 // Frame d for node k.
@@ -65,7 +65,7 @@ pub fn second(work: &mut [u32], d: u16)
 pub fn restore(work: &mut [u32], d: u16)
     ensures { λ _. ⌜ now (work .exit) ≡ restored (now (work .entry)) d ⌝ }
 {
-    words::copy(work, start(d) + 6, 0, 32);
+    words::copy(work, start(d) + 6, 0);
 }
 
 // "A rule has 16 attribute slots": a number past them writes nothing.

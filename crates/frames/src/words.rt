@@ -1,8 +1,8 @@
 // Words of a lent area, read and written for every index: past the end a read gives 0, and a write does nothing.
 ghost use mathlib.Core.Path.{_≡_};
-ghost use Prim.Native.Nat.{_+_, _≤_, _<_};
+ghost use Prim.Native.Nat.{_+_, _-_, _≤_, _<_};
 ghost use lib.ListN.{length, getD};
-ghost use Rattle.frames.specs.Frames.{copied, cleared};
+ghost use Rattle.frames.specs.Frames.{Taken, placed, copied, cleared};
 use values::slots::write_word;
 
 pub(crate) fn get(words: &[u32], i: usize) -> u32
@@ -11,42 +11,59 @@ pub(crate) fn get(words: &[u32], i: usize) -> u32
     if i < words.len() { words[i] } else { 0 }
 }
 
-// All the words are there, so that no test stands in the loop: most of a run's time goes into these copies.
-fn copy_inside(words: &mut [u32], from: usize, to: usize, n: usize)
-    requires { ⌜ from + n ≤ length (now words) ⌝ }
-    requires { ⌜ to + n ≤ length (now words) ⌝ }
-    ensures { λ _. ⌜ now (words .exit) ≡ copied (now (words .entry)) from to n ⌝ }
+// The sixteen slots that stand from word `from` on, in an array of their own. All the words are there, so that no test stands in the loop.
+fn taken(words: &[u32], from: usize) -> [u32; 32]
+    requires { ⌜ from + 32 ≤ length (now words) ⌝ }
+    ensures { λ r. ⌜ Taken (now (words .entry)) from r ⌝ }
 {
-    for i in 0..n {
-        words[to + i] = words[from + i];
+    let mut slots = [0u32; 32];
+    for i in 0..32 {
+        slots[i] = words[from + i];
+    }
+    slots
+}
+
+// Sixteen slots come to stand from word `to` on.
+fn put(words: &mut [u32], to: usize, slots: [u32; 32])
+    requires { ⌜ to + 32 ≤ length (now words) ⌝ }
+    ensures { λ _. ⌜ now (words .exit) ≡ placed (now (words .entry)) to slots 32 ⌝ }
+{
+    for i in 0..32 {
+        words[to + i] = slots[i];
     }
 }
 
-fn copy_across(words: &mut [u32], from: usize, to: usize, n: usize)
-    requires { ⌜ from + n < 4294967296 ⌝ }
-    requires { ⌜ to + n < 4294967296 ⌝ }
-    ensures { λ _. ⌜ now (words .exit) ≡ copied (now (words .entry)) from to n ⌝ }
+// Through an array: of two parts of one area the compiler can't know that they lie apart, and would move word by word; most of a run's time would
+// go into that.
+fn copy_inside(words: &mut [u32], from: usize, to: usize)
+    requires { ⌜ (from + 32 ≤ length (now words)) × (to + 32 ≤ length (now words)) × (32 ≤ (from - to) + (to - from)) ⌝ }
+    ensures { λ _. ⌜ now (words .exit) ≡ copied (now (words .entry)) from to 32 ⌝ }
 {
-    for i in 0..n {
+    let slots = taken(words, from);
+    put(words, to, slots);
+}
+
+fn copy_across(words: &mut [u32], from: usize, to: usize)
+    requires { ⌜ (from + 32 < 4294967296) × (to + 32 < 4294967296) ⌝ }
+    ensures { λ _. ⌜ now (words .exit) ≡ copied (now (words .entry)) from to 32 ⌝ }
+{
+    for i in 0..32 {
         let word = get(words, from + i);
         write_word(words, to + i, word);
     }
 }
 
-pub(crate) fn copy(words: &mut [u32], from: usize, to: usize, n: usize)
-    requires { ⌜ from + n < 4294967296 ⌝ }
-    requires { ⌜ to + n < 4294967296 ⌝ }
-    ensures { λ _. ⌜ now (words .exit) ≡ copied (now (words .entry)) from to n ⌝ }
+// Sixteen slots from one place to another, which lie apart.
+pub(crate) fn copy(words: &mut [u32], from: usize, to: usize)
+    requires { ⌜ (from + 32 < 4294967296) × (to + 32 < 4294967296) × (32 ≤ (from - to) + (to - from)) ⌝ }
+    ensures { λ _. ⌜ now (words .exit) ≡ copied (now (words .entry)) from to 32 ⌝ }
 {
-    if words.len() < from + n {
-        copy_across(words, from, to, n);
+    let last = if from < to { to } else { from };
+    if words.len() < last + 32 {
+        copy_across(words, from, to);
         return;
     }
-    if words.len() < to + n {
-        copy_across(words, from, to, n);
-        return;
-    }
-    copy_inside(words, from, to, n);
+    copy_inside(words, from, to);
 }
 
 fn clear_inside(words: &mut [u32], n: usize)

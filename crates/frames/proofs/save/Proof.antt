@@ -28,4 +28,11 @@ returns c = cc
 pub save-spec : {M : Type 1} → statement M
 save-spec =
     tie.close
-    (tie.spec start-requires add-write-word write-word-requires add-copy copy-requires same-length returns)
+    (tie.spec
+    start-requires
+    add-write-word
+    write-word-requires
+    add-copy
+    copy-requires
+    same-length
+    returns)

@@ -8,10 +8,10 @@ use Rattle.frames.proofs.words.copy_across.Statement.{statement}
 use Rattle.frames.proofs.words.copy_across.Tie as tie
 
 abbrev Inv-loop : tie.InvT-loop
-Inv-loop words₀ from to n i₀ words i = (i ≤ n) × (words ≡ copied words₀ from to i) × (length words ≡ length words₀)
+Inv-loop words₀ from to i₀ words i = (i ≤ 32) × (words ≡ copied words₀ from to i) × (length words ≡ length words₀)
 
 abbrev μ-loop : tie.MeasureT-loop
-μ-loop words₀ from to n i₀ words i = n - i
+μ-loop words₀ from to i₀ words i = 32 - i
 
 loop-holds : tie.Need-loop-holds Inv-loop μ-loop
 unfolding copied

@@ -1,0 +1,72 @@
+use Rattle.frames.proofs.Laws.{placed-more}
+use Rattle.frames.specs.Frames.{placed}
+use lib.ListN.{length, length-set}
+use Prim.Native.Nat.{_-_, _≤_, _+_}
+use native.Mathlib.Omega.{arith}
+use mathlib.Core.Path.{_≡_, refl, ap, _∙_}
+use borrow.Author.Needs.{needs}
+use Rattle.frames.proofs.words.put.Statement.{statement}
+use Rattle.frames.proofs.words.put.Tie as tie
+
+abbrev Inv-loop : tie.InvT-loop
+Inv-loop words₀ to slots i₀ words i = (i ≤ 32) × (words ≡ placed words₀ to slots i) × (length words ≡ length words₀)
+
+abbrev μ-loop : tie.MeasureT-loop
+μ-loop words₀ to slots i₀ words i = 32 - i
+
+loop-holds : tie.Need-loop-holds Inv-loop μ-loop
+unfolding placed
+loop-holds c = (omega arith, refl, refl)
+
+mul-words : tie.Need-mul-words Inv-loop μ-loop
+mul-words c = search needs
+
+array-read-words : tie.Need-array-read-words Inv-loop μ-loop
+array-read-words c = search needs
+
+add-words : tie.Need-add-words Inv-loop μ-loop
+add-words c = omega arith
+
+mul-words-2 : tie.Need-mul-words-2 Inv-loop μ-loop
+mul-words-2 c = omega arith
+
+slice-write-words : tie.Need-slice-write-words Inv-loop μ-loop
+slice-write-words c = omega arith
+
+add-i : tie.Need-add-i Inv-loop μ-loop
+add-i c = omega arith
+
+loop-less : tie.Need-loop-less Inv-loop μ-loop
+loop-less c = omega arith
+
+loop-again : tie.Need-loop-again Inv-loop μ-loop
+loop-again c =
+    let a = c .before .before .args in
+    let o = c .before .loop in
+    (omega arith, cc (placed-more (a .words .now) (a .to) (a .t3) (o .i)), length-set (o .words) (a .to + o .i) _ ∙ o .inv .2)
+
+same-length : tie.Need-same-length Inv-loop μ-loop
+same-length c = c .before .loop .inv .2
+
+returns : tie.Need-returns Inv-loop μ-loop
+returns c =
+    let a = c .before .before .args in
+    c .before .loop .inv .1 ∙ ap (placed (a .words .now) (a .to) (a .t3)) (omega arith)
+
+pub put-spec : {M : Type 1} → statement M
+put-spec =
+    tie.close
+    (tie.spec
+    Inv-loop
+    μ-loop
+    loop-holds
+    mul-words
+    array-read-words
+    add-words
+    mul-words-2
+    slice-write-words
+    add-i
+    loop-less
+    loop-again
+    same-length
+    returns)
