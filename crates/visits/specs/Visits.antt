@@ -7,7 +7,7 @@ use Rattle.grammar.specs.declared.Value.{Value}
 use Rattle.grammar.specs.declared.Value.the-variants as Val
 use Rattle.grammar.specs.declared.Node.{Node}
 use Rattle.grammar.specs.declared.Node.the-variants as N
-use Rattle.grammar.specs.Words.{ruleWord, inheritedCount, nodeAt}
+use Rattle.grammar.specs.Words.{word, ruleWord, inheritedCount, nodeAt}
 use Rattle.grammar.specs.Values.{Evaluated, value, ends}
 use Rattle.grammar.specs.Run.{byteStands, Due, fine, noBudget, tooDeep}
 use Rattle.frames.specs.Frames.{written, pushed}
@@ -58,6 +58,12 @@ called (Are f) body k r w = with (moved r (S.Enter body) (r .at) (r .frames + 1)
 called (Ends why j) body k r w = with (staged r (endedAt why j)) w
 
 module _ (words literals message : List ℕ) where
+  -- the call whose record lies at a place
+  abbrev pub calledAt : (place k : ℕ) → Run → List ℕ → Stepped
+  calledAt place k r w =
+      let field : ℕ → ℕ = λ j. word words (place + j) in
+      called (evaluatedFour words literals message (inheritedCount words (field 1)) (field 2) (field 3) (field 4) (field 5) w) (ruleWord words (field 1) 0) k r w
+
   -- the visit of node k. A node that is no parsing node does as an empty one
   unfoldable pub begun : Node → ℕ → Run → List ℕ → Stepped
   begun N.Unknown k r w = with (staged r S.Matched) w

@@ -3,23 +3,27 @@ ghost use mathlib.Core.Path.{_≡_};
 ghost use mathlib.Core.Bool.{_&&_};
 ghost use Prim.Native.Nat.{_<_, _+_};
 ghost use lib.Dec.{ltb};
+ghost use Rattle.grammar.specs.Words.{nodeAt};
 ghost use Rattle.grammar.specs.Run.{byteStands, due};
 ghost use Rattle.grammar.specs.Answer.{deepestVisit};
 ghost use Rattle.expressions.specs.Meant.{meant};
 ghost use Rattle.stages.specs.Stages.{with};
-ghost use Rattle.visits.specs.Visits.{visited, consumed, opened, updated, judged, constrained, called, begun, admitted};
+ghost use Rattle.visits.specs.Visits.{visited, consumed, opened, updated, judged, constrained, called, calledAt, begun, admitted};
 use calls::Given;
 use calls::evaluate_four;
 use calls::inherit;
 use expressions::Evaluated;
-use grammar::Node;
 use grammar::Value;
 use stages::Run;
 use stages::Stage;
 use stages::ended_at;
 use stages::move_to;
 use stages::stay;
-use table::records;
+use table::records::body;
+use table::records::field_in;
+use table::records::inherited_count;
+use table::records::kind_in;
+use table::records::node_place;
 
 // A terminal matches where its byte stands. Positions are at most 65,535: LONG has refused a longer message.
 fn consume(message: &[u8], run: Run, byte: u16) -> Run
@@ -96,9 +100,36 @@ fn call(given: Given, body: u16, k: u16, run: Run, work: &mut [u32]) -> Run
     }
 }
 
-// Node k is visited. One that is no parsing node does as an empty one.
+// The call whose record lies at a place.
+fn begin_call<'a>(
+    words: &[u16],
+    literals: &'a [u8],
+    message: &'a [u8],
+    place: u32,
+    k: u16,
+    run: Run,
+    work: &mut [u32],
+) -> Run
+    requires { ⌜ run .frames < 256 ⌝ }
+    ensures { λ r. ⌜ with r (now (work .exit)) ≡ calledAt (now (words .entry)) (now (literals .entry)) (now (message .entry)) place k run (now (work .entry)) ⌝ }
+{
+    let q = field_in(words, place, 1);
+    let given = evaluate_four(
+        words,
+        literals,
+        message,
+        work,
+        inherited_count(words, q),
+        field_in(words, place, 2),
+        field_in(words, place, 3),
+        field_in(words, place, 4),
+        field_in(words, place, 5),
+    );
+    call(given, body(words, q), k, run, work)
+}
+
+// Node k is visited: its kind is looked at first, and then only the fields that this kind has. One that is no parsing node does as an empty one.
 fn begin<'a>(
-    node: Node,
     words: &[u16],
     literals: &'a [u8],
     message: &'a [u8],
@@ -107,31 +138,34 @@ fn begin<'a>(
     work: &mut [u32],
 ) -> Run
     requires { ⌜ run .frames < 256 ⌝ }
-    ensures { λ r. ⌜ with r (now (work .exit)) ≡ begun (now (words .entry)) (now (literals .entry)) (now (message .entry)) node k run (now (work .entry)) ⌝ }
+    ensures { λ r. ⌜ with r (now (work .exit)) ≡ begun (now (words .entry)) (now (literals .entry)) (now (message .entry)) (nodeAt (now (words .entry)) k) k run (now (work .entry)) ⌝ }
 {
-    match node {
-        Node::Terminal(byte) => consume(message, run, byte),
-        Node::Sequence(a, _) => open(k, a, run, work),
-        Node::Choice(a, _) => open(k, a, run, work),
-        Node::Repeat(a) => open(k, a, run, work),
-        Node::Not(a) => open(k, a, run, work),
-        Node::Call(q, a, b, c, d, _, _, _, _) => {
-            let n = records::inherited_count(words, q);
-            let given = evaluate_four(words, literals, message, work, n, a, b, c, d);
-            call(given, records::body(words, q), k, run, work)
+    let place = node_place(words, k);
+    match kind_in(words, place) {
+        2 => consume(message, run, field_in(words, place, 1)),
+        3 | 4 | 5 | 6 => open(k, field_in(words, place, 1), run, work),
+        7 => begin_call(words, literals, message, place, k, run, work),
+        8 => open(k, field_in(words, place, 2), run, work),
+        9 => {
+            let result = expressions::evaluate(
+                words,
+                literals,
+                message,
+                work,
+                field_in(words, place, 2),
+            );
+            update(result, field_in(words, place, 1), run, work)
         }
-        Node::Bind(_, a) => open(k, a, run, work),
-        Node::Update(s, e) => update(
-            expressions::evaluate(words, literals, message, work, e),
-            s,
-            run,
-            work,
-        ),
-        Node::Constraint(e) => constrain(
-            expressions::evaluate(words, literals, message, work, e),
-            k,
-            run,
-        ),
+        10 => {
+            let result = expressions::evaluate(
+                words,
+                literals,
+                message,
+                work,
+                field_in(words, place, 1),
+            );
+            constrain(result, k, run)
+        }
         _ => stay(run, Stage::Matched),
     }
 }
@@ -168,13 +202,5 @@ pub fn enter<'a>(
     if 256 <= run.frames {
         return stay(run, Stage::Deep(k));
     }
-    begin(
-        records::node_at(words, k),
-        words,
-        literals,
-        message,
-        k,
-        count(run),
-        work,
-    )
+    begin(words, literals, message, k, count(run), work)
 }

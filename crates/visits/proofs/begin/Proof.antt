@@ -1,73 +1,62 @@
-use Rattle.visits.proofs.Others.{begun-other}
-use Rattle.visits.specs.Visits.{begun}
+use mathlib.Core.Logic.{⊎-elim}
+use Rattle.laws.specs.Apart.{past}
 use Rattle.frames.specs.Frames.{slotsIn}
 use denote.Ref.{now}
+use mathlib.Core.Path.{_∙_}
+use native.Mathlib.Omega.{arith}
+use Rattle.table.proofs.Decoding.{kind-read}
+use Rattle.visits.proofs.ByKind.{begun-terminal, begun-part, begun-call, begun-bind, begun-update, begun-constraint, begun-none}
 use borrow.Author.Needs.{needs}
 use Rattle.visits.proofs.begin.Statement.{statement}
 use Rattle.visits.proofs.begin.Tie as tie
+use Rattle.visits.proofs.begin.Reads as reads
+use Rattle.visits.proofs.begin.Lts as lts
+use Rattle.expressions.proofs.evaluate.Reads as evaluate-reads
+use Rattle.stages.proofs.stay.Reads as stay-reads
+use Rattle.table.proofs.records.field_in.Reads as field-in-reads
+use Rattle.table.proofs.records.kind_in.Reads as kind-in-reads
+use Rattle.table.proofs.records.node_place.Reads as node-place-reads
+use Rattle.visits.proofs.begin_call.Reads as begin-call-reads
+use Rattle.visits.proofs.constrain.Reads as constrain-reads
+use Rattle.visits.proofs.consume.Reads as consume-reads
+use Rattle.visits.proofs.open.Reads as open-reads
+use Rattle.visits.proofs.update.Reads as update-reads
 
-enum-known-node : tie.Need-enum-known-node
-enum-known-node c = search needs
+node-place-requires : tie.Need-node-place-requires
+node-place-requires c κs = search needs
+
+kind-in-requires : tie.Need-kind-in-requires
+kind-in-requires c κs = search needs
+
+field-in-requires : tie.Need-field-in-requires
+field-in-requires c κs = search needs
 
 consume-requires : tie.Need-consume-requires
 consume-requires c κs = search needs
 
-enum-known-node-2 : tie.Need-enum-known-node-2
-enum-known-node-2 c = search needs
+begin-call-requires : tie.Need-begin-call-requires
+begin-call-requires c κs = search needs
+
+field-in-requires-2 : tie.Need-field-in-requires-2
+field-in-requires-2 c κs = search needs
 
 open-requires : tie.Need-open-requires
 open-requires c κs = search needs
 
-enum-known-node-3 : tie.Need-enum-known-node-3
-enum-known-node-3 c = search needs
-
-open-requires-2 : tie.Need-open-requires-2
-open-requires-2 c κs = search needs
-
-enum-known-node-4 : tie.Need-enum-known-node-4
-enum-known-node-4 c = search needs
-
-open-requires-3 : tie.Need-open-requires-3
-open-requires-3 c κs = search needs
-
-enum-known-node-5 : tie.Need-enum-known-node-5
-enum-known-node-5 c = search needs
-
-open-requires-4 : tie.Need-open-requires-4
-open-requires-4 c κs = search needs
-
-enum-known-node-6 : tie.Need-enum-known-node-6
-enum-known-node-6 c = search needs
-
-inherited-count-requires : tie.Need-inherited-count-requires
-inherited-count-requires c κs = search needs
-
-evaluate-four-requires : tie.Need-evaluate-four-requires
-evaluate-four-requires c κs = search needs
-
-body-requires : tie.Need-body-requires
-body-requires c κs = search needs
-
-call-requires : tie.Need-call-requires
-call-requires c κs = search needs
-
-enum-known-node-7 : tie.Need-enum-known-node-7
-enum-known-node-7 c = search needs
-
-open-requires-5 : tie.Need-open-requires-5
-open-requires-5 c κs = search needs
-
-enum-known-node-8 : tie.Need-enum-known-node-8
-enum-known-node-8 c = search needs
+field-in-requires-3 : tie.Need-field-in-requires-3
+field-in-requires-3 c κs = search needs
 
 evaluate-requires : tie.Need-evaluate-requires
 evaluate-requires c κs = search needs
 
+field-in-requires-4 : tie.Need-field-in-requires-4
+field-in-requires-4 c κs = search needs
+
 update-requires : tie.Need-update-requires
 update-requires c κs = search needs
 
-enum-known-node-9 : tie.Need-enum-known-node-9
-enum-known-node-9 c = search needs
+field-in-requires-5 : tie.Need-field-in-requires-5
+field-in-requires-5 c κs = search needs
 
 evaluate-requires-2 : tie.Need-evaluate-requires-2
 evaluate-requires-2 c κs = search needs
@@ -75,99 +64,73 @@ evaluate-requires-2 c κs = search needs
 constrain-requires : tie.Need-constrain-requires
 constrain-requires c κs = search needs
 
+field-in-requires-6 : tie.Need-field-in-requires-6
+field-in-requires-6 c κs = search needs
+
+open-requires-2 : tie.Need-open-requires-2
+open-requires-2 c κs = search needs
+
 stay-requires : tie.Need-stay-requires
 stay-requires c κs = search needs
 
 returns : tie.Need-returns
-unfolding begun
-returns c = rw (c .before .before .node .given .1) (cc)
+returns c = let a = c .before .before .before .before .before .before .before .before .before .args in let kind = kind-read (now (a .words)) (a .k) (c .before .before .before .before .node-place .ensures) (c .before .before .before .kind-in .ensures) in cc (begun-terminal (now (a .words)) (now (a .literals)) (now (a .message)) (a .k) (a .run) (now (a .work)) (kind ∙ c .before .before .match .keys1))
 
 same-length : tie.Need-same-length
 same-length c = search needs
 
 returns-2 : tie.Need-returns-2
-unfolding begun
-returns-2 c = rw (c .before .before .before .before .before .node2 .given .1) (cc)
+returns-2 c = let a = c .before .before .before .before .before .before .before .before .before .before .before .args in let kind = kind-read (now (a .words)) (a .k) (c .before .before .before .before .before .before .node-place .ensures) (c .before .before .before .before .before .kind-in .ensures) in cc (begun-call (now (a .words)) (now (a .literals)) (now (a .message)) (a .k) (a .run) (now (a .work)) (kind ∙ c .before .before .before .before .match .keys2))
 
 same-length-2 : tie.Need-same-length-2
 same-length-2 c = search needs
 
 returns-3 : tie.Need-returns-3
-unfolding begun
-returns-3 c = rw (c .before .before .before .before .before .node3 .given .1) (cc)
+returns-3 c = let a = c .before .before .before .before .before .before .before .before .before .before .before .before .args in let kind = kind-read (now (a .words)) (a .k) (c .before .before .before .before .before .before .before .node-place .ensures) (c .before .before .before .before .before .before .kind-in .ensures) in cc (begun-bind (now (a .words)) (now (a .literals)) (now (a .message)) (a .k) (a .run) (now (a .work)) (kind ∙ c .before .before .before .before .before .match .keys3))
 
 same-length-3 : tie.Need-same-length-3
 same-length-3 c = search needs
 
 returns-4 : tie.Need-returns-4
-unfolding begun
-returns-4 c = rw (c .before .before .before .before .before .node4 .given .1) (cc)
+unfolding slotsIn
+returns-4 c = let a = c .before .before .before .before .before .before .before .before .before .before .before .before .before .before .before .args in let kind = kind-read (now (a .words)) (a .k) (c .before .before .before .before .before .before .before .before .before .before .node-place .ensures) (c .before .before .before .before .before .before .before .before .before .kind-in .ensures) in cc (begun-update (now (a .words)) (now (a .literals)) (now (a .message)) (a .k) (a .run) (now (a .work)) (kind ∙ c .before .before .before .before .before .before .before .before .match .keys4))
 
 same-length-4 : tie.Need-same-length-4
 same-length-4 c = search needs
 
 returns-5 : tie.Need-returns-5
-unfolding begun
-returns-5 c = rw (c .before .before .before .before .before .node5 .given .1) (cc)
+unfolding slotsIn
+returns-5 c = let a = c .before .before .before .before .before .before .before .before .before .before .before .args in let kind = kind-read (now (a .words)) (a .k) (c .before .before .before .before .before .before .node-place .ensures) (c .before .before .before .before .before .kind-in .ensures) in cc (begun-constraint (now (a .words)) (now (a .literals)) (now (a .message)) (a .k) (a .run) (now (a .work)) (kind ∙ c .before .before .before .before .match .keys5))
 
 same-length-5 : tie.Need-same-length-5
 same-length-5 c = search needs
 
 returns-6 : tie.Need-returns-6
-unfolding begun
-returns-6 c = rw (c .before .before .before .before .before .before .before .before .before .node6 .given .1) (cc)
-
-same-length-6 : tie.Need-same-length-6
-same-length-6 c = search needs
+returns-6 c = let a = c .before .before .before .before .before .before .before .before .before .before .before .before .before .before .args in let kind = kind-read (now (a .words)) (a .k) (c .before .before .before .before .before .before .before .before .before .node-place .ensures) (c .before .before .before .before .before .before .before .before .kind-in .ensures) in cc (begun-part (now (a .words)) (now (a .literals)) (now (a .message)) (a .k) (a .run) (now (a .work)) (rw kind (past 2 (c .before .before .before .before .before .before .if1 .left) (c .before .before .before .before .before .before .before .match .rest .0 .0 .0 .0 .1))) (rw kind (c .before .before .before .before .before .if2 .taken)))
 
 returns-7 : tie.Need-returns-7
-unfolding begun
-returns-7 c = rw (c .before .before .before .before .before .node7 .given .1) (cc)
-
-same-length-7 : tie.Need-same-length-7
-same-length-7 c = search needs
-
-returns-8 : tie.Need-returns-8
-unfolding begun slotsIn
-returns-8 c = rw (c .before .before .before .before .before .before .before .node8 .given .1) (cc)
-
-same-length-8 : tie.Need-same-length-8
-same-length-8 c = search needs
-
-returns-9 : tie.Need-returns-9
-unfolding begun slotsIn
-returns-9 c = rw (c .before .before .before .before .node9 .given .1) (cc)
-
-returns-10 : tie.Need-returns-10
-returns-10 c = cc (begun-other (now (c .before .before .before .before .before .before .args .words)) (now (c .before .before .before .before .before .before .args .literals)) (now (c .before .before .before .before .before .before .args .message)) (c .before .before .before .before .before .before .args .k) (c .before .before .before .before .before .before .args .run) (now (c .before .before .before .before .before .before .args .work)) (c .before .before .before .before .before .before .args .node) (c .before .match .keys10))
+returns-7 c = let a = c .before .before .before .before .before .before .before .before .before .args in let kind = kind-read (now (a .words)) (a .k) (c .before .before .before .before .node-place .ensures) (c .before .before .before .kind-in .ensures) in cc (begun-none (now (a .words)) (now (a .literals)) (now (a .message)) (a .k) (a .run) (now (a .work)) (rw kind (λ h. ⊎-elim (λ v. absurd (omega (arith, v .taken, h))) (λ v. let n = c .before .before .match .rest in past 10 (past 9 (past 8 (past 7 (v .1 .left) (n .0 .0 .0 .1)) (n .0 .0 .1)) (n .0 .1)) (n .1)) (c .before .if1 .came))))
 
 pub begin-spec : {M : Type 1} → statement M
 begin-spec =
     tie.close
     (tie.spec
-    enum-known-node
+    node-place-requires
+    kind-in-requires
+    field-in-requires
     consume-requires
-    enum-known-node-2
+    begin-call-requires
+    field-in-requires-2
     open-requires
-    enum-known-node-3
-    open-requires-2
-    enum-known-node-4
-    open-requires-3
-    enum-known-node-5
-    open-requires-4
-    enum-known-node-6
-    inherited-count-requires
-    evaluate-four-requires
-    body-requires
-    call-requires
-    enum-known-node-7
-    open-requires-5
-    enum-known-node-8
+    field-in-requires-3
     evaluate-requires
+    field-in-requires-4
     update-requires
-    enum-known-node-9
+    field-in-requires-5
     evaluate-requires-2
     constrain-requires
+    field-in-requires-6
+    open-requires-2
     stay-requires
     returns
     same-length
@@ -180,10 +143,4 @@ begin-spec =
     returns-5
     same-length-5
     returns-6
-    same-length-6
-    returns-7
-    same-length-7
-    returns-8
-    same-length-8
-    returns-9
-    returns-10)
+    returns-7)

@@ -14,9 +14,6 @@ stay-requires c κs = search needs
 returns-2 : tie.Need-returns-2
 returns-2 c = cc (admitted-deep (now (c .before .before .before .before .before .before .before .before .before .args .words)) (now (c .before .before .before .before .before .before .before .before .before .args .literals)) (now (c .before .before .before .before .before .before .before .before .before .args .message)) (c .before .before .before .before .before .before .before .before .before .args .budget) (c .before .before .before .before .before .before .before .before .before .args .k) (c .before .before .before .before .before .before .before .before .before .args .run) (now (c .before .before .before .before .before .before .before .before .before .args .work)) (omega arith) (omega arith))
 
-node-at-requires : tie.Need-node-at-requires
-node-at-requires c κs = search needs
-
 count-requires : tie.Need-count-requires
 count-requires c κs = search needs
 
@@ -27,7 +24,7 @@ same-length : tie.Need-same-length
 same-length c = search needs
 
 returns-3 : tie.Need-returns-3
-returns-3 c = cc (admitted-fine (now (c .before .before .before .before .before .before .before .before .before .before .before .before .before .before .args .words)) (now (c .before .before .before .before .before .before .before .before .before .before .before .before .before .before .args .literals)) (now (c .before .before .before .before .before .before .before .before .before .before .before .before .before .before .args .message)) (c .before .before .before .before .before .before .before .before .before .before .before .before .before .before .args .budget) (c .before .before .before .before .before .before .before .before .before .before .before .before .before .before .args .k) (c .before .before .before .before .before .before .before .before .before .before .before .before .before .before .args .run) (now (c .before .before .before .before .before .before .before .before .before .before .before .before .before .before .args .work)) (omega arith) (omega arith))
+returns-3 c = let a = c .before .before .before .before .before .before .before .before .before .before .before .before .before .args in cc (admitted-fine (now (a .words)) (now (a .literals)) (now (a .message)) (a .budget) (a .k) (a .run) (now (a .work)) (omega arith) (omega arith))
 
 pub enter-spec : {M : Type 1} → statement M
 enter-spec =
@@ -36,7 +33,6 @@ enter-spec =
     returns
     stay-requires
     returns-2
-    node-at-requires
     count-requires
     begin-requires
     same-length
