@@ -1,10 +1,10 @@
 -- A return to the node of the top frame, in words: what it does to the run record and to the work area (document 01, 'Running'). Frame d is the
 -- top one, d frames below it. Assumes nothing.
 use mathlib.Core.List.{List}
-use Prim.Native.Nat.{ℕ, zero, suc}
+use Prim.Native.Nat.{ℕ, zero, suc, _+_}
 use Rattle.grammar.specs.declared.Node.{Node}
 use Rattle.grammar.specs.declared.Node.the-variants as N
-use Rattle.grammar.specs.Words.{returnedCount, nodeAt}
+use Rattle.grammar.specs.Words.{word, returnedCount, nodeAt}
 use Rattle.grammar.specs.Run.{messagePart}
 use Rattle.frames.specs.Frames.{written, nodeIn, phaseIn, fromIn, saved, inSecond, restored}
 use Rattle.calls.specs.declared.Given.{Given}
@@ -56,6 +56,12 @@ failedIn (N.Binary op a b) d r w = givenBack d r w
 failedIn (N.Negation a) d r w = givenBack d r w
 
 module _ (words literals message : List ℕ) where
+  -- the call whose record lies at a place
+  abbrev pub returnedAt : (place d : ℕ) → Run → List ℕ → Stepped
+  returnedAt place d r w =
+      let field : ℕ → ℕ = λ j. word words (place + j) in
+      returned (returnedBy words literals message (field 1) w) (returnedCount words (field 1)) (field 6) (field 7) (field 8) (field 9) d r w
+
   -- the part of the node of frame d matched. A node without parts has no frame; if one stood there, it would match
   unfoldable pub matchedIn : Node → ℕ → Run → List ℕ → Stepped
   matchedIn N.Unknown d r w = with (moved r S.Matched (r .at) d) w

@@ -1,14 +1,14 @@
 // A return to the node of the top frame, whose part has matched or failed. Frame d is the top one.
 ghost use mathlib.Core.Path.{_≡_};
+ghost use Rattle.grammar.specs.Words.{nodeAt};
 ghost use Rattle.grammar.specs.Run.{messagePart};
 ghost use Rattle.frames.specs.Frames.{phaseIn, fromIn, written};
 ghost use Rattle.stages.specs.declared.Stage.the-variants as S;
 ghost use Rattle.stages.specs.Stages.{with, moved};
-ghost use Rattle.returns.specs.Returns.{sequenceMatched, choiceFailed, givenBack, returned, matchedIn, failedIn, backMatched, backFailed};
+ghost use Rattle.returns.specs.Returns.{sequenceMatched, choiceFailed, givenBack, returned, returnedAt, matchedIn, failedIn, backMatched, backFailed};
 use calls::Given;
 use calls::receive;
 use calls::returned_by;
-use grammar::Node;
 use grammar::Span;
 use grammar::Value;
 use stages::Run;
@@ -16,7 +16,10 @@ use stages::Stage;
 use stages::ended_at;
 use stages::move_to;
 use stages::stay;
-use table::records;
+use table::records::field_in;
+use table::records::kind_in;
+use table::records::node_place;
+use table::records::returned_count;
 
 // A sequence's part matched: on to its second part, or done.
 fn sequence_matched(b: u16, d: u16, run: Run, work: &mut [u32]) -> Run
@@ -102,61 +105,77 @@ fn call_matched(
     }
 }
 
-// A node without parts has no frame; if one stood there, it would match.
-fn matched_in<'a>(
-    node: Node,
+// The call whose record lies at a place: "evaluates the returned nodes there, then sets its receiving slots left to right".
+fn return_call<'a>(
     words: &[u16],
     literals: &'a [u8],
     message: &'a [u8],
+    place: u32,
     d: u16,
     run: Run,
     work: &mut [u32],
 ) -> Run
-    ensures { λ r. ⌜ with r (now (work .exit)) ≡ matchedIn (now (words .entry)) (now (literals .entry)) (now (message .entry)) node d run (now (work .entry)) ⌝ }
+    ensures { λ r. ⌜ with r (now (work .exit)) ≡ returnedAt (now (words .entry)) (now (literals .entry)) (now (message .entry)) place d run (now (work .entry)) ⌝ }
 {
-    match node {
-        Node::Sequence(_, b) => sequence_matched(b, d, run, work),
+    let q = field_in(words, place, 1);
+    let given = returned_by(words, literals, message, work, q);
+    call_matched(
+        given,
+        returned_count(words, q),
+        field_in(words, place, 6),
+        field_in(words, place, 7),
+        field_in(words, place, 8),
+        field_in(words, place, 9),
+        d,
+        run,
+        work,
+    )
+}
+
+// The part of node k, which is frame d's, has matched: its kind is looked at first, and then only the fields that this kind has. A node without parts
+// has no frame; if one stood there, it would match.
+fn matched_in<'a>(
+    words: &[u16],
+    literals: &'a [u8],
+    message: &'a [u8],
+    k: u16,
+    d: u16,
+    run: Run,
+    work: &mut [u32],
+) -> Run
+    ensures { λ r. ⌜ with r (now (work .exit)) ≡ matchedIn (now (words .entry)) (now (literals .entry)) (now (message .entry)) (nodeAt (now (words .entry)) k) d run (now (work .entry)) ⌝ }
+{
+    let place = node_place(words, k);
+    match kind_in(words, place) {
+        3 => sequence_matched(field_in(words, place, 2), d, run, work),
         // "A round may consume nothing"
-        Node::Repeat(a) => {
+        5 => {
             frames::save(work, d, run.at);
-            stay(run, Stage::Enter(a))
+            stay(run, Stage::Enter(field_in(words, place, 1)))
         }
         // "not hands on the slots its part left, matched or failed"
-        Node::Not(_) => move_to(run, Stage::Failed, run.at, d),
-        // "evaluates the returned nodes there, then sets its receiving slots left to right"
-        Node::Call(q, _, _, _, _, s, t, u, v) => {
-            let given = returned_by(words, literals, message, work, q);
-            call_matched(
-                given,
-                records::returned_count(words, q),
-                s,
-                t,
-                u,
-                v,
-                d,
-                run,
-                work,
-            )
-        }
-        Node::Bind(s, _) => bind_matched(s, d, run, work),
+        6 => move_to(run, Stage::Failed, run.at, d),
+        7 => return_call(words, literals, message, place, d, run, work),
+        8 => bind_matched(field_in(words, place, 1), d, run, work),
         _ => move_to(run, Stage::Matched, run.at, d),
     }
 }
 
 // A node without parts has no frame; if one stood there, it would give back the slots too.
-fn failed_in(node: Node, d: u16, run: Run, work: &mut [u32]) -> Run
-    ensures { λ r. ⌜ with r (now (work .exit)) ≡ failedIn node d run (now (work .entry)) ⌝ }
+fn failed_in(words: &[u16], k: u16, d: u16, run: Run, work: &mut [u32]) -> Run
+    ensures { λ r. ⌜ with r (now (work .exit)) ≡ failedIn (nodeAt (now (words .entry)) k) d run (now (work .entry)) ⌝ }
 {
-    match node {
-        Node::Choice(_, b) => choice_failed(b, d, run, work),
+    let place = node_place(words, k);
+    match kind_in(words, place) {
+        4 => choice_failed(field_in(words, place, 2), d, run, work),
         // "then stands as after the last full round"
-        Node::Repeat(_) => {
+        5 => {
             let from = frames::from_in(work, d);
             frames::restore(work, d);
             move_to(run, Stage::Matched, from, d)
         }
         // "Not consumes nothing"
-        Node::Not(_) => move_to(run, Stage::Matched, frames::from_in(work, d), d),
+        6 => move_to(run, Stage::Matched, frames::from_in(work, d), d),
         _ => give_back(d, run, work),
     }
 }
@@ -176,15 +195,7 @@ pub fn back_matched<'a>(
     }
     let d = run.frames - 1;
     let k = frames::node_in(work, d);
-    matched_in(
-        records::node_at(words, k),
-        words,
-        literals,
-        message,
-        d,
-        run,
-        work,
-    )
+    matched_in(words, literals, message, k, d, run, work)
 }
 
 pub fn back_failed<'a>(
@@ -201,5 +212,5 @@ pub fn back_failed<'a>(
     }
     let d = run.frames - 1;
     let k = frames::node_in(work, d);
-    failed_in(records::node_at(words, k), d, run, work)
+    failed_in(words, k, d, run, work)
 }

@@ -1,18 +1,32 @@
-use Rattle.returns.proofs.Others.{failed-other}
-use Rattle.returns.specs.Returns.{failedIn}
 use denote.Ref.{now}
+use mathlib.Core.Path.{_∙_}
+use Rattle.table.proofs.Decoding.{kind-read}
+use Rattle.returns.proofs.ByKind.{failed-choice, failed-repeat, failed-not, failed-none}
 use borrow.Author.Needs.{needs}
 use Rattle.returns.proofs.failed_in.Statement.{statement}
 use Rattle.returns.proofs.failed_in.Tie as tie
+use Rattle.returns.proofs.failed_in.Reads as reads
+use Rattle.returns.proofs.failed_in.Lts as lts
+use Rattle.frames.proofs.from_in.Reads as from-in-reads
+use Rattle.frames.proofs.restore.Reads as restore-reads
+use Rattle.returns.proofs.choice_failed.Reads as choice-failed-reads
+use Rattle.returns.proofs.give_back.Reads as give-back-reads
+use Rattle.stages.proofs.move_to.Reads as move-to-reads
+use Rattle.table.proofs.records.field_in.Reads as field-in-reads
+use Rattle.table.proofs.records.kind_in.Reads as kind-in-reads
+use Rattle.table.proofs.records.node_place.Reads as node-place-reads
 
-enum-known-node : tie.Need-enum-known-node
-enum-known-node c = search needs
+node-place-requires : tie.Need-node-place-requires
+node-place-requires c κs = search needs
+
+kind-in-requires : tie.Need-kind-in-requires
+kind-in-requires c κs = search needs
+
+field-in-requires : tie.Need-field-in-requires
+field-in-requires c κs = search needs
 
 choice-failed-requires : tie.Need-choice-failed-requires
 choice-failed-requires c κs = search needs
-
-enum-told : tie.Need-enum-told
-enum-told c = search needs
 
 from-in-requires : tie.Need-from-in-requires
 from-in-requires c κs = search needs
@@ -22,9 +36,6 @@ restore-requires c κs = search needs
 
 move-to-requires : tie.Need-move-to-requires
 move-to-requires c κs = search needs
-
-enum-told-2 : tie.Need-enum-told-2
-enum-told-2 c = search needs
 
 from-in-requires-2 : tie.Need-from-in-requires-2
 from-in-requires-2 c κs = search needs
@@ -39,40 +50,37 @@ same-length : tie.Need-same-length
 same-length c = search needs
 
 returns : tie.Need-returns
-unfolding failedIn
-returns c = rw (c .before .before .before .before .before .node .given .1) (cc)
+returns c = let a = c .before .before .before .before .before .before .before .before .before .before .args in let kind = kind-read (now (a .words)) (a .k) (c .before .before .before .before .before .before .before .node-place .ensures) (c .before .before .before .before .before .before .kind-in .ensures) in cc (failed-choice (now (a .words)) (a .k) (a .d) (a .run) (now (a .work)) (kind ∙ c .before .before .before .before .before .match .keys1))
 
 same-length-2 : tie.Need-same-length-2
 same-length-2 c = search needs
 
 returns-2 : tie.Need-returns-2
-unfolding failedIn
-returns-2 c = rw (c .before .before .before .before .before .before .before .enum-told .given .1) (cc)
+returns-2 c = let a = c .before .before .before .before .before .before .before .before .before .before .before .before .args in let kind = kind-read (now (a .words)) (a .k) (c .before .before .before .before .before .before .before .before .before .node-place .ensures) (c .before .before .before .before .before .before .before .before .kind-in .ensures) in cc (failed-repeat (now (a .words)) (a .k) (a .d) (a .run) (now (a .work)) (kind ∙ c .before .before .before .before .before .before .before .match .keys2))
 
 same-length-3 : tie.Need-same-length-3
 same-length-3 c = search needs
 
 returns-3 : tie.Need-returns-3
-unfolding failedIn
-returns-3 c = rw (c .before .before .before .enum-told2 .given .1) (cc)
+returns-3 c = let a = c .before .before .before .before .before .before .before .before .args in let kind = kind-read (now (a .words)) (a .k) (c .before .before .before .before .before .node-place .ensures) (c .before .before .before .before .kind-in .ensures) in cc (failed-not (now (a .words)) (a .k) (a .d) (a .run) (now (a .work)) (kind ∙ c .before .before .before .match .keys3))
 
 same-length-4 : tie.Need-same-length-4
 same-length-4 c = search needs
 
 returns-4 : tie.Need-returns-4
-returns-4 c = cc (failed-other (c .before .before .before .before .before .before .args .d) (c .before .before .before .before .before .before .args .run) (now (c .before .before .before .before .before .before .args .work)) (c .before .before .before .before .before .before .args .node) (c .before .before .before .before .match .keys4))
+returns-4 c = let a = c .before .before .before .before .before .before .before .before .before .args in let kind = kind-read (now (a .words)) (a .k) (c .before .before .before .before .before .before .node-place .ensures) (c .before .before .before .before .before .kind-in .ensures) in let n = c .before .before .before .before .match .rest in cc (failed-none (now (a .words)) (a .k) (a .d) (a .run) (now (a .work)) (rw kind (n .0 .0 .1)) (rw kind (n .0 .1)) (rw kind (n .1)))
 
 pub failed-in-spec : {M : Type 1} → statement M
 failed-in-spec =
     tie.close
     (tie.spec
-    enum-known-node
+    node-place-requires
+    kind-in-requires
+    field-in-requires
     choice-failed-requires
-    enum-told
     from-in-requires
     restore-requires
     move-to-requires
-    enum-told-2
     from-in-requires-2
     move-to-requires-2
     give-back-requires

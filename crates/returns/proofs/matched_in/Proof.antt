@@ -1,45 +1,51 @@
-use Rattle.returns.proofs.Others.{matched-other}
-use Rattle.returns.specs.Returns.{matchedIn}
 use denote.Ref.{now}
+use mathlib.Core.Path.{_∙_}
+use Rattle.table.proofs.Decoding.{kind-read}
+use Rattle.returns.proofs.ByKind.{matched-sequence, matched-repeat, matched-not, matched-call, matched-bind, matched-none}
 use borrow.Author.Needs.{needs}
 use Rattle.returns.proofs.matched_in.Statement.{statement}
 use Rattle.returns.proofs.matched_in.Tie as tie
+use Rattle.returns.proofs.matched_in.Reads as reads
+use Rattle.returns.proofs.matched_in.Lts as lts
+use Rattle.frames.proofs.save.Reads as save-reads
+use Rattle.returns.proofs.bind_matched.Reads as bind-matched-reads
+use Rattle.returns.proofs.return_call.Reads as return-call-reads
+use Rattle.returns.proofs.sequence_matched.Reads as sequence-matched-reads
+use Rattle.stages.proofs.move_to.Reads as move-to-reads
+use Rattle.stages.proofs.stay.Reads as stay-reads
+use Rattle.table.proofs.records.field_in.Reads as field-in-reads
+use Rattle.table.proofs.records.kind_in.Reads as kind-in-reads
+use Rattle.table.proofs.records.node_place.Reads as node-place-reads
 
-enum-known-node : tie.Need-enum-known-node
-enum-known-node c = search needs
+node-place-requires : tie.Need-node-place-requires
+node-place-requires c κs = search needs
+
+kind-in-requires : tie.Need-kind-in-requires
+kind-in-requires c κs = search needs
+
+field-in-requires : tie.Need-field-in-requires
+field-in-requires c κs = search needs
 
 sequence-matched-requires : tie.Need-sequence-matched-requires
 sequence-matched-requires c κs = search needs
 
-enum-known-node-2 : tie.Need-enum-known-node-2
-enum-known-node-2 c = search needs
-
 save-requires : tie.Need-save-requires
 save-requires c κs = search needs
+
+field-in-requires-2 : tie.Need-field-in-requires-2
+field-in-requires-2 c κs = search needs
 
 stay-requires : tie.Need-stay-requires
 stay-requires c κs = search needs
 
-enum-told : tie.Need-enum-told
-enum-told c = search needs
-
 move-to-requires : tie.Need-move-to-requires
 move-to-requires c κs = search needs
 
-enum-known-node-3 : tie.Need-enum-known-node-3
-enum-known-node-3 c = search needs
+return-call-requires : tie.Need-return-call-requires
+return-call-requires c κs = search needs
 
-returned-by-requires : tie.Need-returned-by-requires
-returned-by-requires c κs = search needs
-
-returned-count-requires : tie.Need-returned-count-requires
-returned-count-requires c κs = search needs
-
-call-matched-requires : tie.Need-call-matched-requires
-call-matched-requires c κs = search needs
-
-enum-known-node-4 : tie.Need-enum-known-node-4
-enum-known-node-4 c = search needs
+field-in-requires-3 : tie.Need-field-in-requires-3
+field-in-requires-3 c κs = search needs
 
 bind-matched-requires : tie.Need-bind-matched-requires
 bind-matched-requires c κs = search needs
@@ -51,53 +57,46 @@ same-length : tie.Need-same-length
 same-length c = search needs
 
 returns : tie.Need-returns
-unfolding matchedIn
-returns c = rw (c .before .before .before .before .before .node .given .1) (cc)
+returns c = let a = c .before .before .before .before .before .before .before .before .before .before .before .before .args in let kind = kind-read (now (a .words)) (a .k) (c .before .before .before .before .before .before .before .node-place .ensures) (c .before .before .before .before .before .before .kind-in .ensures) in cc (matched-sequence (now (a .words)) (now (a .literals)) (now (a .message)) (a .k) (a .d) (a .run) (now (a .work)) (kind ∙ c .before .before .before .before .before .match .keys1))
 
 same-length-2 : tie.Need-same-length-2
 same-length-2 c = search needs
 
 returns-2 : tie.Need-returns-2
-unfolding matchedIn
-returns-2 c = rw (c .before .before .before .before .before .before .node2 .given .1) (cc)
+returns-2 c = let a = c .before .before .before .before .before .before .before .before .before .before .before .before .before .args in let kind = kind-read (now (a .words)) (a .k) (c .before .before .before .before .before .before .before .before .node-place .ensures) (c .before .before .before .before .before .before .before .kind-in .ensures) in cc (matched-repeat (now (a .words)) (now (a .literals)) (now (a .message)) (a .k) (a .d) (a .run) (now (a .work)) (kind ∙ c .before .before .before .before .before .before .match .keys2))
 
 returns-3 : tie.Need-returns-3
-unfolding matchedIn
-returns-3 c = rw (c .before .enum-told .given .1) (cc)
+returns-3 c = let a = c .before .before .before .before .before .before .before .before .args in let kind = kind-read (now (a .words)) (a .k) (c .before .before .before .node-place .ensures) (c .before .before .kind-in .ensures) in cc (matched-not (now (a .words)) (now (a .literals)) (now (a .message)) (a .k) (a .d) (a .run) (now (a .work)) (kind ∙ c .before .match .keys3))
 
 same-length-3 : tie.Need-same-length-3
 same-length-3 c = search needs
 
 returns-4 : tie.Need-returns-4
-unfolding matchedIn
-returns-4 c = rw (c .before .before .before .before .before .before .before .before .node3 .given .1, ← c .before .before .before .before .before .returned-by .ensures, ← c .before .before .before .before .returned-count .ensures) (c .before .before .call-matched .ensures)
+returns-4 c = let a = c .before .before .before .before .before .before .before .before .before .before .before .args in let kind = kind-read (now (a .words)) (a .k) (c .before .before .before .before .before .before .node-place .ensures) (c .before .before .before .before .before .kind-in .ensures) in cc (matched-call (now (a .words)) (now (a .literals)) (now (a .message)) (a .k) (a .d) (a .run) (now (a .work)) (kind ∙ c .before .before .before .before .match .keys4))
 
 same-length-4 : tie.Need-same-length-4
 same-length-4 c = search needs
 
 returns-5 : tie.Need-returns-5
-unfolding matchedIn
-returns-5 c = rw (c .before .before .before .before .before .node4 .given .1) (cc)
+returns-5 c = let a = c .before .before .before .before .before .before .before .before .before .before .before .before .args in let kind = kind-read (now (a .words)) (a .k) (c .before .before .before .before .before .before .before .node-place .ensures) (c .before .before .before .before .before .before .kind-in .ensures) in cc (matched-bind (now (a .words)) (now (a .literals)) (now (a .message)) (a .k) (a .d) (a .run) (now (a .work)) (kind ∙ c .before .before .before .before .before .match .keys5))
 
 returns-6 : tie.Need-returns-6
-returns-6 c = cc (matched-other (now (c .before .before .before .before .before .before .args .words)) (now (c .before .before .before .before .before .before .args .literals)) (now (c .before .before .before .before .before .before .args .message)) (c .before .before .before .before .before .before .args .d) (c .before .before .before .before .before .before .args .run) (now (c .before .before .before .before .before .before .args .work)) (c .before .before .before .before .before .before .args .node) (c .before .match .keys6))
+returns-6 c = let a = c .before .before .before .before .before .before .before .before .args in let kind = kind-read (now (a .words)) (a .k) (c .before .before .before .node-place .ensures) (c .before .before .kind-in .ensures) in let n = c .before .match .rest in cc (matched-none (now (a .words)) (now (a .literals)) (now (a .message)) (a .k) (a .d) (a .run) (now (a .work)) (rw kind (n .0 .0 .0 .0 .1)) (rw kind (n .0 .0 .0 .1)) (rw kind (n .0 .0 .1)) (rw kind (n .0 .1)) (rw kind (n .1)))
 
 pub matched-in-spec : {M : Type 1} → statement M
 matched-in-spec =
     tie.close
     (tie.spec
-    enum-known-node
+    node-place-requires
+    kind-in-requires
+    field-in-requires
     sequence-matched-requires
-    enum-known-node-2
     save-requires
+    field-in-requires-2
     stay-requires
-    enum-told
     move-to-requires
-    enum-known-node-3
-    returned-by-requires
-    returned-count-requires
-    call-matched-requires
-    enum-known-node-4
+    return-call-requires
+    field-in-requires-3
     bind-matched-requires
     move-to-requires-2
     same-length
