@@ -4,9 +4,10 @@ use mathlib.Core.Bool.{Bool, true, false, _&&_}
 use mathlib.Core.List.{List}
 use Prim.Native.Nat.{ℕ, _+_, _≤_, _<_}
 use native.Mathlib.Omega.{arith}
-use borrow.Author.Tests.{lt-ltb, le-ltb, le-leb, lt-leb, eq-eqb, ne-eqb}
+use borrow.Author.Tests.{lt-ltb, le-ltb, le-leb, lt-leb, ltb-true}
 use lib.Dec.{ltb, eqb}
 use lib.ListN.{length, getD}
+use Rattle.laws.specs.Tests.{both-right}
 use Rattle.grammar.specs.Words.{nodeAt}
 use Rattle.grammar.specs.Run.{byteStands, due}
 use Rattle.grammar.specs.Answer.{deepestVisit}
@@ -17,26 +18,29 @@ use Rattle.visits.specs.Visits.{visited, consumed, begun, admitted}
 
 -- ════ A terminal ════
 
-module _ (m : List ℕ) (r : Run) (byte : ℕ) where
-  pub consumed-past : length m ≤ r .at → consumed (byteStands m (r .at) byte && ltb (r .at) 65535) r ≡ staged r S.Failed
-  unfolding consumed byteStands
-  consumed-past h = rw (le-ltb (r .at) (length m) h)
+both-true : (b : Bool) → (b && true) ≡ b
+both-true true = refl
+both-true false = refl
 
-  pub consumed-last : r .at < length m → 65535 ≤ r .at → consumed (byteStands m (r .at) byte && ltb (r .at) 65535) r ≡ staged r S.Failed
-  unfolding consumed byteStands
-  consumed-last h e = rw (lt-ltb (r .at) (length m) h, le-ltb (r .at) 65535 e) (either (eqb (getD m (r .at) 0) byte))
-    where
-      either : (b : Bool) → consumed (b && false) r ≡ staged r S.Failed
-      either true = refl
-      either false = refl
+both-false : (b : Bool) → (b && false) ≡ false
+both-false true = refl
+both-false false = refl
 
-  pub consumed-same : r .at < length m → r .at < 65535 → getD m (r .at) 0 ≡ byte → consumed (byteStands m (r .at) byte && ltb (r .at) 65535) r ≡ moved r S.Matched (r .at + 1) (r .frames)
-  unfolding consumed byteStands
-  consumed-same h e s = rw (lt-ltb (r .at) (length m) h, lt-ltb (r .at) 65535 e, eq-eqb (getD m (r .at) 0) byte s)
+module _ (m : List ℕ) (at byte : ℕ) where
+  pub stands-past : length m ≤ at → (byteStands m at byte && ltb at 65535) ≡ false
+  unfolding byteStands
+  stands-past h = rw (le-ltb at (length m) h)
 
-  pub consumed-other : r .at < length m → (getD m (r .at) 0 ≡ byte → ⊥) → consumed (byteStands m (r .at) byte && ltb (r .at) 65535) r ≡ staged r S.Failed
-  unfolding consumed byteStands
-  consumed-other h s = rw (lt-ltb (r .at) (length m) h, ne-eqb (getD m (r .at) 0) byte s)
+  pub stands-last : 65535 ≤ at → (byteStands m at byte && ltb at 65535) ≡ false
+  stands-last h = rw (le-ltb at 65535 h) (both-false (byteStands m at byte))
+
+  pub stands-here : at < length m → at < 65535 → (byteStands m at byte && ltb at 65535) ≡ eqb (getD m at 0) byte
+  unfolding byteStands
+  stands-here h e = rw (lt-ltb at (length m) h, lt-ltb at 65535 e) (both-true (eqb (getD m at 0) byte))
+
+  -- a position after such a byte is a position too
+  pub stands-small : (byteStands m at byte && ltb at 65535) ≡ true → at < 65535
+  stands-small e = ltb-true at 65535 (both-right (byteStands m at byte) (ltb at 65535) e)
 
 -- ════ When a visit is due ════
 

@@ -25,24 +25,29 @@ use table::records::inherited_count;
 use table::records::kind_in;
 use table::records::node_place;
 
-// A terminal matches where its byte stands. Positions are at most 65,535: LONG has refused a longer message.
+// Does the byte stand at a position? Positions are at most 65,535: LONG has refused a longer message.
+pub fn byte_stands(message: &[u8], at: u16, byte: u16) -> bool
+    ensures { λ r. ⌜ r ≡ (byteStands (now (message .entry)) at byte && ltb at 65535) ⌝ }
+{
+    let place = at as usize;
+    if message.len() <= place {
+        return false;
+    }
+    if 65535 <= at {
+        return false;
+    }
+    message[place] as u16 == byte
+}
+
+// A terminal matches where its byte stands.
 fn consume(message: &[u8], run: Run, byte: u16) -> Run
     ensures { λ r. ⌜ r ≡ consumed (byteStands (now (message .entry)) (run .at) byte && ltb (run .at) 65535) run ⌝ }
 {
     let at = run.at;
-    let place = at as usize;
-    if message.len() <= place {
-        return stay(run, Stage::Failed);
+    if byte_stands(message, at, byte) {
+        return move_to(run, Stage::Matched, at + 1, run.frames);
     }
-    if 65535 <= at {
-        return stay(run, Stage::Failed);
-    }
-    let found = message[place] as u16;
-    if found == byte {
-        move_to(run, Stage::Matched, at + 1, run.frames)
-    } else {
-        stay(run, Stage::Failed)
-    }
+    stay(run, Stage::Failed)
 }
 
 // A frame for node k, and its part is due.
