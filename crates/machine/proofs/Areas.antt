@@ -19,7 +19,7 @@ copied-same w from to (suc n) outside =
     same-trans (copied-same w from to n (λ i a b. outside i a (omega arith)))
     (set-same (copied w from to n) (to + n) (getD (copied w from to n) (from + n) 0) (λ l h. outside (to + n) (omega arith) (omega arith) l h))
 
-copied-word : (w : List ℕ) (from to n : ℕ) → Outside to (to + n) from (from + n) → to + n ≤ length w → (i : ℕ) → i < n →
+pub copied-word : (w : List ℕ) (from to n : ℕ) → Outside to (to + n) from (from + n) → to + n ≤ length w → (i : ℕ) → i < n →
     getD (copied w from to n) (to + i) 0 ≡ getD w (from + i) 0
 unfolding copied
 copied-word w from to zero apart fits i h = absurd (omega arith)

@@ -17,3 +17,4 @@ pub mod WordVisits
 pub mod WordReturns
 pub mod WordsAreNodes
 pub mod Entry
+pub mod ThreeSteps

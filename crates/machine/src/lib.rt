@@ -1,2 +1,3 @@
 // The machine: a run is a small record by value; its slots and frames lie in a lent work area. `steps::step` makes one visit or one return.
 pub mod steps;
+mod strides;

@@ -2,7 +2,12 @@
 ghost use mathlib.Core.Path.{_≡_};
 ghost use Rattle.stages.specs.Stages.{with};
 ghost use Rattle.machine.specs.Step.{stepOf};
+ghost use mathlib.Core.Bool.{true};
 ghost use Rattle.machine.specs.Drive.{goesOn, driven};
+ghost use Rattle.machine.specs.Strides.{Strode};
+use crate::strides::both_visits;
+use crate::strides::terminal_first;
+use crate::strides::two_left;
 use returns::back_failed;
 use returns::back_matched;
 use stages::Run;
@@ -42,6 +47,32 @@ fn goes_on(budget: u32, run: Run) -> bool
     }
 }
 
+// One step of a run that goes on, or three at once. Nothing else calls `step` or `both_visits`, so that the compiler puts a whole run into one loop.
+fn stride<'a>(
+    words: &[u16],
+    literals: &'a [u8],
+    message: &'a [u8],
+    budget: u32,
+    run: Run,
+    work: &mut [u32],
+) -> Run
+    requires { ⌜ goesOn budget run ≡ true ⌝ }
+    ensures { λ r. ⌜ Strode (now (words .entry)) (now (literals .entry)) (now (message .entry)) budget (with run (now (work .entry))) (with r (now (work .exit))) ⌝ }
+{
+    let stage = run.stage;
+    match stage {
+        Stage::Enter(k) => {
+            if terminal_first(words, k) {
+                if two_left(budget, work.len(), run) {
+                    return both_visits(words, message, k, run, work);
+                }
+            }
+            step(words, literals, message, budget, run, work)
+        }
+        _ => step(words, literals, message, budget, run, work),
+    }
+}
+
 // Steps until the run rests.
 pub fn drive<'a>(
     words: &[u16],
@@ -55,7 +86,7 @@ pub fn drive<'a>(
 {
     let mut now = run;
     while goes_on(budget, now) {
-        now = step(words, literals, message, budget, now, work);
+        now = stride(words, literals, message, budget, now, work);
     }
     now
 }

@@ -13,8 +13,8 @@ use Rattle.grammar.specs.Run.{byteStands, due}
 use Rattle.grammar.specs.Answer.{deepestVisit}
 use Rattle.stages.specs.declared.Stage.the-variants as S
 use Rattle.stages.specs.declared.Run.{Run}
-use Rattle.stages.specs.Stages.{with, moved, staged}
-use Rattle.visits.specs.Visits.{visited, consumed, begun, admitted}
+use Rattle.stages.specs.Stages.{with, staged}
+use Rattle.visits.specs.Visits.{visited, begun, admitted}
 
 -- ════ A terminal ════
 

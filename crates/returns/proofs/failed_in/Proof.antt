@@ -5,16 +5,6 @@ use Rattle.returns.proofs.ByKind.{failed-choice, failed-repeat, failed-
 use borrow.Author.Needs.{needs}
 use Rattle.returns.proofs.failed_in.Statement.{statement}
 use Rattle.returns.proofs.failed_in.Tie as tie
-use Rattle.returns.proofs.failed_in.Reads as reads
-use Rattle.returns.proofs.failed_in.Lts as lts
-use Rattle.frames.proofs.from_in.Reads as from-in-reads
-use Rattle.frames.proofs.restore.Reads as restore-reads
-use Rattle.returns.proofs.choice_failed.Reads as choice-failed-reads
-use Rattle.returns.proofs.give_back.Reads as give-back-reads
-use Rattle.stages.proofs.move_to.Reads as move-to-reads
-use Rattle.table.proofs.records.field_in.Reads as field-in-reads
-use Rattle.table.proofs.records.kind_in.Reads as kind-in-reads
-use Rattle.table.proofs.records.node_place.Reads as node-place-reads
 
 node-place-requires : tie.Need-node-place-requires
 node-place-requires c κs = search needs

@@ -5,17 +5,6 @@ use Rattle.returns.proofs.ByKind.{matched-sequence, matched-repeat, mat
 use borrow.Author.Needs.{needs}
 use Rattle.returns.proofs.matched_in.Statement.{statement}
 use Rattle.returns.proofs.matched_in.Tie as tie
-use Rattle.returns.proofs.matched_in.Reads as reads
-use Rattle.returns.proofs.matched_in.Lts as lts
-use Rattle.frames.proofs.save.Reads as save-reads
-use Rattle.returns.proofs.bind_matched.Reads as bind-matched-reads
-use Rattle.returns.proofs.return_call.Reads as return-call-reads
-use Rattle.returns.proofs.sequence_matched.Reads as sequence-matched-reads
-use Rattle.stages.proofs.move_to.Reads as move-to-reads
-use Rattle.stages.proofs.stay.Reads as stay-reads
-use Rattle.table.proofs.records.field_in.Reads as field-in-reads
-use Rattle.table.proofs.records.kind_in.Reads as kind-in-reads
-use Rattle.table.proofs.records.node_place.Reads as node-place-reads
 
 node-place-requires : tie.Need-node-place-requires
 node-place-requires c κs = search needs

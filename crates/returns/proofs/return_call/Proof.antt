@@ -1,12 +1,6 @@
 use borrow.Author.Needs.{needs}
 use Rattle.returns.proofs.return_call.Statement.{statement}
 use Rattle.returns.proofs.return_call.Tie as tie
-use Rattle.returns.proofs.return_call.Reads as reads
-use Rattle.returns.proofs.return_call.Lts as lts
-use Rattle.calls.proofs.returned_by.Reads as returned-by-reads
-use Rattle.returns.proofs.call_matched.Reads as call-matched-reads
-use Rattle.table.proofs.records.field_in.Reads as field-in-reads
-use Rattle.table.proofs.records.returned_count.Reads as returned-count-reads
 
 field-in-requires : tie.Need-field-in-requires
 field-in-requires c κs = search needs

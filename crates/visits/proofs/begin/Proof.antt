@@ -9,18 +9,6 @@ use Rattle.visits.proofs.ByKind.{begun-terminal, begun-part, begun-call
 use borrow.Author.Needs.{needs}
 use Rattle.visits.proofs.begin.Statement.{statement}
 use Rattle.visits.proofs.begin.Tie as tie
-use Rattle.visits.proofs.begin.Reads as reads
-use Rattle.visits.proofs.begin.Lts as lts
-use Rattle.expressions.proofs.evaluate.Reads as evaluate-reads
-use Rattle.stages.proofs.stay.Reads as stay-reads
-use Rattle.table.proofs.records.field_in.Reads as field-in-reads
-use Rattle.table.proofs.records.kind_in.Reads as kind-in-reads
-use Rattle.table.proofs.records.node_place.Reads as node-place-reads
-use Rattle.visits.proofs.begin_call.Reads as begin-call-reads
-use Rattle.visits.proofs.constrain.Reads as constrain-reads
-use Rattle.visits.proofs.consume.Reads as consume-reads
-use Rattle.visits.proofs.open.Reads as open-reads
-use Rattle.visits.proofs.update.Reads as update-reads
 
 node-place-requires : tie.Need-node-place-requires
 node-place-requires c κs = search needs

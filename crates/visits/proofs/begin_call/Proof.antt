@@ -1,13 +1,6 @@
 use borrow.Author.Needs.{needs}
 use Rattle.visits.proofs.begin_call.Statement.{statement}
 use Rattle.visits.proofs.begin_call.Tie as tie
-use Rattle.visits.proofs.begin_call.Reads as reads
-use Rattle.visits.proofs.begin_call.Lts as lts
-use Rattle.calls.proofs.evaluate_four.Reads as evaluate-four-reads
-use Rattle.table.proofs.records.body.Reads as body-reads
-use Rattle.table.proofs.records.field_in.Reads as field-in-reads
-use Rattle.table.proofs.records.inherited_count.Reads as inherited-count-reads
-use Rattle.visits.proofs.call.Reads as call-reads
 
 field-in-requires : tie.Need-field-in-requires
 field-in-requires c κs = search needs

@@ -5,8 +5,6 @@ use Rattle.visits.proofs.Arms.{stands-past, stands-last, stands-here}
 use borrow.Author.Needs.{needs}
 use Rattle.visits.proofs.byte_stands.Statement.{statement}
 use Rattle.visits.proofs.byte_stands.Tie as tie
-use Rattle.visits.proofs.byte_stands.Reads as reads
-use Rattle.visits.proofs.byte_stands.Lts as lts
 
 returns : tie.Need-returns
 returns c = let a = c .before .args in sym (stands-past (now (a .message)) (a .at) (a .byte) (omega arith))

@@ -6,11 +6,6 @@ use Rattle.visits.proofs.Arms.{stands-small}
 use borrow.Author.Needs.{needs}
 use Rattle.visits.proofs.consume.Statement.{statement}
 use Rattle.visits.proofs.consume.Tie as tie
-use Rattle.visits.proofs.consume.Reads as reads
-use Rattle.visits.proofs.consume.Lts as lts
-use Rattle.stages.proofs.move_to.Reads as move-to-reads
-use Rattle.stages.proofs.stay.Reads as stay-reads
-use Rattle.visits.proofs.byte_stands.Reads as byte-stands-reads
 
 byte-stands-requires : tie.Need-byte-stands-requires
 byte-stands-requires c κs = search needs

@@ -2,7 +2,7 @@ use Rattle.frames.proofs.Laws.{taken-more}
 use lib.ListN.{length, length-set, getD}
 use Prim.Native.Nat.{ℕ, _-_, _≤_, _<_, _+_}
 use native.Mathlib.Omega.{arith}
-use mathlib.Core.Path.{_≡_, refl, ap, _∙_}
+use mathlib.Core.Path.{_≡_, refl, _∙_}
 use borrow.Author.Needs.{needs}
 use Rattle.frames.proofs.words.taken.Statement.{statement}
 use Rattle.frames.proofs.words.taken.Tie as tie

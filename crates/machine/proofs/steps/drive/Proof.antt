@@ -1,10 +1,9 @@
-use Rattle.machine.proofs.Weight.{falls, driven-step, driven-rest}
+use Rattle.machine.proofs.Weight.{driven-rest}
 use Rattle.machine.specs.Drive.{weight, driven}
-use Rattle.stages.specs.Stages.{Stepped, with}
+use Rattle.stages.specs.Stages.{with}
 use lib.ListN.{length}
-use native.Mathlib.Omega.{arith}
 use denote.Ref.{now}
-use mathlib.Core.Path.{_≡_, refl, sym, ap, _∙_}
+use mathlib.Core.Path.{_≡_, refl, sym, _∙_}
 use Rattle.machine.proofs.steps.drive.Statement.{statement}
 use Rattle.machine.proofs.steps.drive.Tie as tie
 
@@ -20,14 +19,14 @@ loop-holds c = (refl, refl)
 goes-on-requires : tie.Need-goes-on-requires Inv-loop μ-loop
 goes-on-requires c κs = tt
 
-step-requires : tie.Need-step-requires Inv-loop μ-loop
-step-requires c κs = tt
+stride-requires : tie.Need-stride-requires Inv-loop μ-loop
+stride-requires c κs = sym (c .before .before .goes-on .ensures) ∙ c .before .if1 .taken
 
 loop-less : tie.Need-loop-less Inv-loop μ-loop
-loop-less c = omega (arith, falls (now (c .before .before .before .before .before .before .before .before .before .before .before .args .words)) (now (c .before .before .before .before .before .before .before .before .before .before .before .args .literals)) (now (c .before .before .before .before .before .before .before .before .before .before .before .args .message)) (c .before .before .before .before .before .before .before .before .before .before .before .args .budget) (c .before .before .before .before .before .before .loop .now) (c .before .before .before .before .before .before .loop .work) (sym (c .before .before .before .before .before .goes-on .ensures) ∙ c .before .before .before .before .if1 .taken), ap (λ (s : Stepped). weight (c .before .before .before .before .before .before .before .before .before .before .before .args .budget) (s .run)) (c .before .before .step .ensures))
+loop-less c = c .before .before .stride .ensures .less
 
 loop-again : tie.Need-loop-again Inv-loop μ-loop
-loop-again c = (ap (driven (now (c .before .before .before .before .before .before .before .before .before .before .before .args .words)) (now (c .before .before .before .before .before .before .before .before .before .before .before .args .literals)) (now (c .before .before .before .before .before .before .before .before .before .before .before .args .message)) (c .before .before .before .before .before .before .before .before .before .before .before .args .budget)) (c .before .before .step .ensures) ∙ (driven-step (now (c .before .before .before .before .before .before .before .before .before .before .before .args .words)) (now (c .before .before .before .before .before .before .before .before .before .before .before .args .literals)) (now (c .before .before .before .before .before .before .before .before .before .before .before .args .message)) (c .before .before .before .before .before .before .before .before .before .before .before .args .budget) (with (c .before .before .before .before .before .before .loop .now) (c .before .before .before .before .before .before .loop .work)) (sym (c .before .before .before .before .before .goes-on .ensures) ∙ c .before .before .before .before .if1 .taken) ∙ c .before .before .before .before .before .before .loop .inv .0), c .before .before .step .kept .1 .1 .1 .1 .1 .0 ∙ c .before .before .before .before .before .before .loop .inv .1)
+loop-again c = (c .before .before .stride .ensures .same ∙ c .before .before .before .before .before .before .loop .inv .0, c .before .before .stride .kept .1 .1 .1 .1 .1 .0 ∙ c .before .before .before .before .before .before .loop .inv .1)
 
 same-length : tie.Need-same-length Inv-loop μ-loop
 same-length c = c .before .before .loop .inv .1
@@ -43,7 +42,7 @@ drive-spec =
     μ-loop
     loop-holds
     goes-on-requires
-    step-requires
+    stride-requires
     loop-less
     loop-again
     same-length
