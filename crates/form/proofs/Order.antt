@@ -2,7 +2,7 @@
 use mathlib.Core.Bool.{Bool, true, false, not}
 use mathlib.Core.List.{List}
 use mathlib.Core.Path.{_≡_, sym, _∙_}
-use Prim.Native.Nat.{ℕ, _-_, _≤_, _<_}
+use Prim.Native.Nat.{ℕ, _≤_, _<_}
 use native.Mathlib.Omega.{arith}
 use lib.Dec.{eqb}
 use lib.ListN.{length, getD}
@@ -11,8 +11,8 @@ use Rattle.laws.specs.Counting.{smallestFailing}
 use Rattle.laws.specs.Smallest.{smallest-same}
 use Rattle.grammar.specs.Words.{nodeCount, inheritedCount}
 use Rattle.grammar.specs.declared.Verdict.the-variants.{Passed, Size, Field, Use, Start}
-use Rattle.grammar.specs.Form.{wordOk, uses, sizeOk, tableCheck}
-use Rattle.form.specs.Scan.{found, Counted, Sized}
+use Rattle.grammar.specs.Form.{uses, sizeOk, tableCheck}
+use Rattle.form.specs.Scan.{found, Scanned, Sized}
 use Rattle.table.proofs.Size.{size-facts}
 
 -- what passed SIZE
@@ -21,34 +21,38 @@ size-passed words literalBytes b told e =
     let s = size-facts words literalBytes (sym told ∙ not-false b e) in
     record { few-rules = s .rules-most; few-nodes = s .nodes-most; long = s .words-are }
 
--- what the counts say of the uses
-pub misused : (words counts : List ℕ) (n : ℕ) → Counted words counts → n ≤ 1024
-    → smallestFailing (λ k. eqb (getD counts k 0) 1) 0 n ≡ smallestFailing (λ k. eqb (uses words k) 1) 0 n
-misused words counts n counted h =
-    smallest-same (λ k. eqb (getD counts k 0) 1) (λ k. eqb (uses words k) 1) 0 n (λ k low high. rw (counted .at k (omega arith)))
-
 module _ (words literals : List ℕ) where
   pub at-size : sizeOk words (length literals) ≡ false → Size ≡ tableCheck words literals
   unfolding tableCheck
   at-size size = rw size
 
-  module _ (size : sizeOk words (length literals) ≡ true) (i : ℕ) (bad : found (length words) i ≡ smallestFailing (wordOk words) 3 (length words - 3)) where
+  -- the scan stopped at word i
+  module _ (size : sizeOk words (length literals) ≡ true) (counts : List ℕ) (i : ℕ) (scanned : Scanned words counts i) where
     pub at-field : i < length words → Field i ≡ tableCheck words literals
     unfolding tableCheck
-    at-field h = rw (size, ← bad, lt-ltb i (length words) h)
+    at-field h = rw (size, ← scanned .stopped, lt-ltb i (length words) h)
 
-    module _ (none : length words ≤ i) (k : ℕ) (other : found (nodeCount words) k ≡ smallestFailing (λ n. eqb (uses words n) 1) 0 (nodeCount words)) where
-      pub at-use : k < nodeCount words → Use k ≡ tableCheck words literals
+    -- past the last word; and node k is the first of n whose count is not 1, or there is none
+    module _ (none : length words ≤ i) (n k : ℕ) (nodes : n ≡ nodeCount words) (few : n ≤ 1024)
+        (other : found n k ≡ smallestFailing (λ m. eqb (getD counts m 0) 1) 0 n) where
+      -- what the counts say of the uses
+      misused : smallestFailing (λ m. eqb (uses words m) 1) 0 (nodeCount words) ≡ found n k
+      misused =
+          rw (other, ← nodes)
+          (smallest-same (λ m. eqb (uses words m) 1) (λ m. eqb (getD counts m 0) 1) 0 n (λ m low high. rw (scanned .counted none .at m (omega arith))))
+
+      at-use : k < n → Use k ≡ tableCheck words literals
       unfolding tableCheck
-      at-use h = rw (size, ← bad, le-ltb i (length words) none, ← other, lt-ltb k (nodeCount words) h)
+      at-use h = rw (size, ← scanned .stopped, le-ltb i (length words) none, misused, lt-ltb k n h)
 
-      module _ (once : nodeCount words ≤ k) where
-        pub at-start : 0 < inheritedCount words 0 → Start ≡ tableCheck words literals
-        unfolding tableCheck
-        at-start h =
-            rw (size, ← bad, le-ltb i (length words) none, ← other, le-ltb k (nodeCount words) once, ne-eqb (inheritedCount words 0) 0 (omega arith))
+      at-start : n ≤ k → 0 < inheritedCount words 0 → Start ≡ tableCheck words literals
+      unfolding tableCheck
+      at-start once h = rw (size, ← scanned .stopped, le-ltb i (length words) none, misused, le-ltb k n once, ne-eqb (inheritedCount words 0) 0 (omega arith))
 
-        pub at-end : inheritedCount words 0 ≤ 0 → Passed ≡ tableCheck words literals
-        unfolding tableCheck
-        at-end h =
-            rw (size, ← bad, le-ltb i (length words) none, ← other, le-ltb k (nodeCount words) once, eq-eqb (inheritedCount words 0) 0 (omega arith))
+      at-end : n ≤ k → inheritedCount words 0 ≤ 0 → Passed ≡ tableCheck words literals
+      unfolding tableCheck
+      at-end once h = rw (size, ← scanned .stopped, le-ltb i (length words) none, misused, le-ltb k n once, eq-eqb (inheritedCount words 0) 0 (omega arith))
+
+      pub after-scan : (k < n → Use k ≡ tableCheck words literals) × (n ≤ k → 0 < inheritedCount words 0 → Start ≡ tableCheck words literals)
+          × (n ≤ k → inheritedCount words 0 ≤ 0 → Passed ≡ tableCheck words literals)
+      after-scan = (at-use, at-start, at-end)

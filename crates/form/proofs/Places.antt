@@ -1,16 +1,14 @@
 -- Where each word stands: the record it is in, and the records one after the other. Assumes nothing.
 use mathlib.Core.Bool.{Bool, true, false, cond}
 use mathlib.Core.List.{List}
-use mathlib.Core.Logic.{⊎-elim}
 use mathlib.Core.Path.{_≡_, refl}
 use Prim.Native.Nat.{ℕ, _+_, _*_, _-_, _/_, _%_, _≤_, _<_}
-use native.Mathlib.Nat.{eq-or-lt-of-le}
 use native.Mathlib.Omega.{arith}
 use lib.Dec.{ltb}
 use borrow.Author.Tests.{lt-ltb, le-ltb, ltb-true, ltb-false}
 use Rattle.grammar.specs.Words.{ruleCount, ruleStart, nodeStart}
-use Rattle.grammar.specs.Form.{inRecord, ruleWordOk, nodeWordOk, wordOk}
-use Rattle.form.specs.Scan.{recordLength, recordStart, recordWordOk}
+use Rattle.grammar.specs.Form.{inRecord}
+use Rattle.form.specs.Scan.{recordLength, recordStart}
 
 module _ (words : List ℕ) {A : Type 0} (ofRule ofNode : ℕ → ℕ → A) where
   -- word j of rule r
@@ -35,18 +33,6 @@ pub start-end : (R K : ℕ) → recordStart R (R + K) ≡ 3 + 15 * R + 10 * K
 unfolding recordStart
 start-end R K = omega arith
 
-pub start-most : (R q : ℕ) → (3 ≤ recordStart R q) × (recordStart R q ≤ 3 + 15 * q)
-unfolding recordStart
-start-most R q = (omega arith, omega arith)
-
-pub length-most : (R q : ℕ) → recordLength R q ≤ 15
-unfolding recordLength
-length-most R q = go (ltb q R)
-  where
-    go : (b : Bool) → cond b 15 10 ≤ 15
-    go true = omega arith
-    go false = omega arith
-
 module _ (R q : ℕ) where
   pub start-next : recordStart R q + recordLength R q ≡ recordStart R (q + 1)
   unfolding recordStart recordLength
@@ -56,34 +42,28 @@ module _ (R q : ℕ) where
       go true e = let h : q < R = ltb-true _ _ e in rw e (omega arith)
       go false e = let h : R ≤ q = ltb-false _ _ e in rw e (omega arith)
 
-  module _ (j : ℕ) (hj : j < recordLength R q) where
-    -- a word of a record is a word of the table
-    pub word-in : (K : ℕ) → q < R + K → recordStart R q + j < 3 + 15 * R + 10 * K
-    unfolding recordStart recordLength
-    word-in K hq = go (ltb q R) refl
-      where
-        go : (b : Bool) → ltb q R ≡ b → recordStart R q + j < 3 + 15 * R + 10 * K
-        go true e = let h : q < R = ltb-true _ _ e in let h′ : j < 15 = rw e at hj in omega arith
-        go false e = let h : R ≤ q = ltb-false _ _ e in let h′ : j < 10 = rw e at hj in omega arith
+  -- a record has words, which are words of the table
+  pub record-in : (K : ℕ) → q < R + K → (3 ≤ recordStart R q) × (1 ≤ recordLength R q) × (recordStart R q + recordLength R q ≤ 3 + 15 * R + 10 * K)
+  unfolding recordStart recordLength
+  record-in K hq = go (ltb q R) refl
+    where
+      go : (b : Bool) → ltb q R ≡ b → (3 ≤ recordStart R q) × (1 ≤ cond b 15 10) × (recordStart R q + cond b 15 10 ≤ 3 + 15 * R + 10 * K)
+      go true e = let h : q < R = ltb-true _ _ e in omega arith
+      go false e = let h : R ≤ q = ltb-false _ _ e in omega arith
 
-    pub word-ok : (words : List ℕ) → R ≡ ruleCount words → wordOk words (recordStart R q + j) ≡ recordWordOk words R q j
-    unfolding wordOk recordStart recordLength recordWordOk
-    word-ok words same = go (ltb q R) refl
+  module _ (j : ℕ) (hj : j < recordLength R q) where
+    -- what holds of word j is what holds of that word of a rule, or of a node
+    pub in-record : (words : List ℕ) → R ≡ ruleCount words → {A : Type 0} (ofRule ofNode : ℕ → ℕ → A)
+        → inRecord words ofRule ofNode (recordStart R q + j) ≡ cond (ltb q R) (ofRule q j) (ofNode (q - R) j)
+    unfolding recordStart recordLength
+    in-record words same ofRule ofNode = go (ltb q R) refl
       where
-        go : (b : Bool) → ltb q R ≡ b → wordOk words (recordStart R q + j) ≡ recordWordOk words R q j
+        go : (b : Bool) → ltb q R ≡ b → inRecord words ofRule ofNode (recordStart R q + j) ≡ cond b (ofRule q j) (ofNode (q - R) j)
         go true e =
             let h : q < R = ltb-true _ _ e in
             let h′ : j < 15 = rw e at hj in
-            rw e (in-rule words (ruleWordOk words) (nodeWordOk words) (recordStart R q + j) q j (omega arith) (omega arith) h′)
+            in-rule words ofRule ofNode (recordStart R q + j) q j (omega arith) (omega arith) h′
         go false e =
             let h : R ≤ q = ltb-false _ _ e in
             let h′ : j < 10 = rw e at hj in
-            rw e (in-node words (ruleWordOk words) (nodeWordOk words) (recordStart R q + j) (q - R) j (omega arith) h′)
-
--- all words of records before word i are right
-abbrev pub Passed : List ℕ → ℕ → Type 0
-Passed words i = (k : ℕ) → 3 ≤ k → k < i → wordOk words k ≡ true
-
-pub passed-next : (words : List ℕ) (i : ℕ) → Passed words i → wordOk words i ≡ true → Passed words (i + 1)
-passed-next words i passed right k low high =
-    ⊎-elim (λ (e : k ≡ i). rw e right) (λ (h : k < i). passed k low h) (eq-or-lt-of-le (omega arith))
+            in-node words ofRule ofNode (recordStart R q + j) (q - R) j (omega arith) h′

@@ -1,99 +1,61 @@
--- The code's constant table is the specs' table of sorts, a sort a number: proved by one computation over the whole of it. Assumes nothing.
-use mathlib.Core.Bool.{Bool, true, false}
+-- The code's constant tables are the specs' tables of sorts, a sort a number: proved by one computation over the whole of each. Assumes nothing.
+use mathlib.Core.Bool.{Bool, true, false, cond}
 use mathlib.Core.List.{List, [], map}
 use mathlib.Core.Path.{_≡_, refl, sym, _∙_}
-use Prim.Native.Nat.{ℕ, _+_, _-_, _≤_, _<_}
+use Prim.Native.Nat.{ℕ, _-_, _<_}
 use native.Mathlib.Omega.{arith}
-use lib.Dec.{leb, ltb}
-use lib.ListN.{getD, length, List·getD-eq-default, List·getD-map}
-use borrow.Author.Tests.{leb-true, ltb-true, ltb-false}
-use Rattle.laws.specs.Counting.{smallestFailing}
-use Rattle.laws.specs.Elements.{getD-either, getD-all-same}
-use Rattle.laws.specs.Smallest.{smallest-all}
-use Rattle.grammar.specs.Form.{Sort, unused, byte, bit, any, parsing, expression, rule, slot, argument, receiving, textStart, textLength, count, inheritedType, returned, returnedType, noField, fieldSorts, fieldSort, ruleSorts}
-use Rattle.form.specs.Sorts.{sortFor, plainSorts}
-
--- the number of a sort
-unfoldable pub numberOf : Sort → ℕ
-numberOf unused = 0
-numberOf byte = 1
-numberOf bit = 2
-numberOf any = 3
-numberOf parsing = 4
-numberOf expression = 5
-numberOf rule = 6
-numberOf slot = 7
-numberOf textStart = 8
-numberOf textLength = 9
-numberOf count = 10
-numberOf (argument i) = 11 + i
-numberOf (receiving i) = 15 + i
-numberOf (inheritedType i) = 19 + i
-numberOf (returned i) = 23 + i
-numberOf (returnedType i) = 27 + i
-
-abbrev pub ruleNumbers : List ℕ
-ruleNumbers = map numberOf ruleSorts
+use lib.Dec.{ltb, eqb}
+use lib.ListN.{getD, List·getD-eq-default, List·getD-map}
+use borrow.Author.Tests.{ltb-true, ltb-false}
+use Rattle.laws.specs.Elements.{getD-either}
+use Rattle.grammar.specs.Form.{Sort, unused, noField, fieldSorts, fieldSort, ruleSorts}
+use Rattle.form.specs.Sorts.{numberOf, ruleNumbers, rowOf, inRow, force}
+use Rattle.form.proofs.Force.{inForce}
 
 abbrev pub fieldNumbers : List (List ℕ)
 fieldNumbers = map (map numberOf) fieldSorts
 
--- an element of a list of numbers, as a sort
-sort-at : (numbers : List ℕ) (j : ℕ) → sortFor (getD numbers j 0) ≡ getD (map sortFor numbers) j unused
-unfolding sortFor plainSorts
-sort-at numbers j = sym (List·getD-map sortFor numbers j 0)
-
--- the rule's record, there and back
-rules-back : map sortFor ruleNumbers ≡ ruleSorts
-unfolding sortFor plainSorts ruleSorts numberOf
-rules-back = refl
-
-pub rule-sort : (j : ℕ) → sortFor (getD ruleNumbers j 0) ≡ getD ruleSorts j unused
-rule-sort j = rw (sort-at ruleNumbers j, rules-back)
-
-pub no-rule-word : (j : ℕ) → 15 ≤ j → sortFor 0 ≡ getD ruleSorts j unused
-unfolding sortFor plainSorts ruleSorts
-no-rule-word j h = sym (List·getD-eq-default ruleSorts unused h)
-
--- all rows, there and back
-fields-back : map (map sortFor) fieldNumbers ≡ fieldSorts
-unfolding sortFor plainSorts fieldSorts numberOf
-fields-back = refl
-
--- every row has nine fields
-nine-test : ℕ → Bool
-nine-test kind = leb (length (getD fieldSorts kind noField)) 9
-
-nine : (kind : ℕ) → length (getD fieldSorts kind noField) ≤ 9
-unfolding nine-test fieldSorts smallestFailing
-nine kind = go (ltb kind 29) refl
+-- the row of a kind is the specs' line
+row-is : (kind : ℕ) → getD fieldSorts (rowOf kind) [] ≡ getD fieldSorts kind noField
+unfolding fieldSorts rowOf
+row-is kind = go (ltb kind 29) refl
   where
-    go : (b : Bool) → ltb kind 29 ≡ b → length (getD fieldSorts kind noField) ≤ 9
-    go true e = leb-true _ _ (smallest-all nine-test 0 29 refl kind (omega arith) (ltb-true _ _ e))
-    go false e = rw (List·getD-eq-default fieldSorts noField (ltb-false kind 29 e)) (omega arith)
+    go : (b : Bool) → ltb kind 29 ≡ b → getD fieldSorts (cond b kind 0) [] ≡ getD fieldSorts kind noField
+    go true e = getD-either fieldSorts kind [] noField (ltb-true kind 29 e)
+    go false e = sym (List·getD-eq-default fieldSorts noField (ltb-false kind 29 e))
 
-module _ (kind f : ℕ) where
-  field-in : fieldSort kind (f + 1) ≡ getD (getD fieldSorts kind noField) f unused
-  unfolding fieldSort
-  field-in = let e : f + 1 - 1 ≡ f = omega arith in rw e
+pub row-few : (kind : ℕ) → rowOf kind < 29
+unfolding rowOf
+row-few kind = go (ltb kind 29) refl
+  where
+    go : (b : Bool) → ltb kind 29 ≡ b → cond b kind 0 < 29
+    go true e = ltb-true kind 29 e
+    go false e = omega arith
 
-  -- a kind that has a row
-  row-in : kind < 29 → getD fieldSorts kind [] ≡ getD fieldSorts kind noField
-  unfolding fieldSorts
-  row-in h = getD-either fieldSorts kind [] noField h
+module _ (words : List ℕ) (start : ℕ) where
+  -- numbers and sorts that are one after the other the same in force
+  each : (numbers : List ℕ) (sorts : List Sort) (j : ℕ) → map (force words start) numbers ≡ map (inForce words start) sorts
+      → force words start (getD numbers j 0) ≡ inForce words start (getD sorts j unused)
+  unfolding force inForce
+  each numbers sorts j same =
+      sym (List·getD-map (force words start) numbers j 0) ∙ rw same (List·getD-map (inForce words start) sorts j unused)
 
-  pub field-row : kind < 29 → sortFor (getD (getD fieldNumbers kind []) f 0) ≡ fieldSort kind (f + 1)
-  field-row h =
-      let row : map sortFor (getD fieldNumbers kind []) ≡ getD fieldSorts kind noField =
-      sym (List·getD-map (map sortFor) fieldNumbers kind []) ∙ rw fields-back (row-in h) in
-      rw (sort-at (getD fieldNumbers kind []) f, row, field-in)
+  -- a rule's record, and all rows
+  rules-same : map (force words start) ruleNumbers ≡ map (inForce words start) ruleSorts
+  unfolding force inForce numberOf ruleSorts
+  rules-same = refl
 
-  -- a kind that has none
-  pub no-row : 29 ≤ kind → sortFor 0 ≡ fieldSort kind (f + 1)
-  unfolding sortFor plainSorts fieldSorts
-  no-row h = rw (field-in, List·getD-eq-default fieldSorts noField h) (sym (getD-all-same 9 f unused))
+  rows-same : map (map (force words start)) fieldNumbers ≡ map (map (inForce words start)) fieldSorts
+  unfolding force inForce numberOf fieldSorts
+  rows-same = refl
 
-  -- past the ninth field
-  pub no-field : 9 ≤ f → sortFor 0 ≡ fieldSort kind (f + 1)
-  unfolding sortFor plainSorts
-  no-field h = rw field-in (sym (List·getD-eq-default (getD fieldSorts kind noField) unused (omega (arith, nine kind))))
+  pub rule-forced : (j : ℕ) → force words start (getD ruleNumbers j 0) ≡ inForce words start (getD ruleSorts j unused)
+  rule-forced j = each ruleNumbers ruleSorts j rules-same
+
+  pub row-forced : (kind j : ℕ) → eqb j 0 ≡ false → force words start (inRow fieldNumbers (rowOf kind) j) ≡ inForce words start (fieldSort kind j)
+  unfolding inRow fieldSort
+  row-forced kind j e =
+      let row = rowOf kind in
+      let same : map (force words start) (getD fieldNumbers row []) ≡ map (inForce words start) (getD fieldSorts row []) =
+      sym (List·getD-map (map (force words start)) fieldNumbers row []) ∙ rw rows-same (List·getD-map (map (inForce words start)) fieldSorts row []) in
+      rw (e, ← row-is kind) (each (getD fieldNumbers row []) (getD fieldSorts row []) (j - 1) same)

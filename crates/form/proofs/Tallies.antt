@@ -2,59 +2,42 @@
 use mathlib.Core.Bool.{Bool, true, false, cond, _&&_}
 use mathlib.Core.List.{List}
 use mathlib.Core.Path.{_≡_, refl, sym}
-use Prim.Native.Nat.{ℕ, _+_, _-_, _/_, _%_, _≤_, _<_}
+use Prim.Native.Nat.{ℕ, _+_, _-_, _≤_, _<_}
 use native.Mathlib.Omega.{arith}
 use lib.Dec.{eqb, ltb}
-use lib.ListN.{length, getD, set, replicate, getD-replicate}
+use lib.ListN.{length, getD, set, replicate, length-set, getD-replicate, List·getD-eq-default}
 use lib.Seq.{getD-set-same, getD-set-other}
-use borrow.Author.Tests.{eqb-true, eqb-false, ne-eqb}
+use borrow.Author.Tests.{eqb-true, eqb-false, ltb-true, ltb-false}
 use Rattle.laws.specs.Counting.{howMany}
 use Rattle.laws.specs.Counts.{howMany-more, howMany-most}
-use Rattle.grammar.specs.Words.{word, ruleWord, nodeWord, kindAt, nodeStart}
-use Rattle.grammar.specs.Form.{inRecord, ruleWordUses, nodeWordUses, wordUses, fieldSort, usesNode}
-use Rattle.form.specs.Sorts.{inForce, isNode, ruleSort, nodeSort, sortAt}
-use Rattle.form.specs.Scan.{usedAt}
-use Rattle.form.proofs.Force.{uses-in-force}
+use Rattle.grammar.specs.Words.{word}
+use Rattle.grammar.specs.Form.{inRecord, ruleWordUses, nodeWordUses, wordUses}
+use Rattle.form.specs.Sorts.{isNode}
+use Rattle.form.specs.Scan.{oneMore}
 
-both-true : (b : Bool) → (b && true) ≡ b
-both-true true = refl
-both-true false = refl
-
-both-false : (b : Bool) → (b && false) ≡ false
-both-false true = refl
-both-false false = refl
-
-module _ (words : List ℕ) where
-  rule-uses : (r j : ℕ) → ruleWordUses words r j ≡ isNode (ruleSort words r j)
-  unfolding ruleSort
-  rule-uses r j = uses-in-force words (ruleWord words r) _
-
-  node-uses : (k j : ℕ) → nodeWordUses words k j ≡ isNode (nodeSort words k j)
-  unfolding nodeSort
-  node-uses k j = go (eqb j 0)
+-- one use more, where there is one
+module _ (counts : List ℕ) (long : length counts ≡ 1024) (n w : ℕ) where
+  pub more-long : length (oneMore counts n w) ≡ 1024
+  unfolding oneMore
+  more-long = go (isNode n && ltb w 1024)
     where
-      go : (b : Bool) → cond b false (usesNode words (nodeWord words k) (fieldSort (kindAt words k) j))
-          ≡ isNode (cond b 32 (inForce words (nodeWord words k 1) (nodeWord words k 6) (fieldSort (kindAt words k) j)))
-      go true = refl
-      go false = uses-in-force words (nodeWord words k) _
+      go : (b : Bool) → length (cond b (set counts w (getD counts w 0 + 1)) counts) ≡ 1024
+      go true = simp length-set long
+      go false = long
 
-  record-uses : (i : ℕ) → inRecord words (ruleWordUses words) (nodeWordUses words) i ≡ isNode (sortAt words i)
-  unfolding sortAt
-  record-uses i = go (ltb i (nodeStart words 0))
+  more-at : (k : ℕ) → k < 1024 → getD (oneMore counts n w) k 0 ≡ getD counts k 0 + cond (eqb w k && isNode n) 1 0
+  unfolding oneMore
+  more-at k hk = go (eqb w k) refl (isNode n) (ltb w 1024) refl
     where
-      go : (b : Bool) → cond b (ruleWordUses words ((i - 3) / 15) ((i - 3) % 15)) (nodeWordUses words ((i - nodeStart words 0) / 10) ((i - nodeStart words 0) % 10))
-          ≡ isNode (cond b (ruleSort words ((i - 3) / 15) ((i - 3) % 15)) (nodeSort words ((i - nodeStart words 0) / 10) ((i - nodeStart words 0) % 10)))
-      go true = rule-uses _ _
-      go false = node-uses _ _
-
-  -- word i uses node k where the node it uses is k
-  names : (i k : ℕ) → k < 65536 → wordUses words k i ≡ eqb (usedAt words i) k
-  unfolding wordUses usedAt
-  names i k h = rw (record-uses i) (go (isNode (sortAt words i)))
-    where
-      go : (b : Bool) → (eqb (word words i) k && b) ≡ eqb (cond b (word words i) 65536) k
-      go true = both-true _
-      go false = rw (both-false (eqb (word words i) k)) (sym (ne-eqb 65536 k (omega arith)))
+      go : (b : Bool) → eqb w k ≡ b → (node : Bool) (few : Bool) → ltb w 1024 ≡ few
+          → getD (cond (node && few) (set counts w (getD counts w 0 + 1)) counts) k 0 ≡ getD counts k 0 + cond (b && node) 1 0
+      go true e true true h = rw (← eqb-true w k e) (getD-set-same counts w (getD counts w 0 + 1) 0 (omega (arith, eqb-true w k e)))
+      go true e true false h = absurd (omega (arith, eqb-true w k e, ltb-false w 1024 h))
+      go true e false few h = omega arith
+      go false e true true h =
+          rw (getD-set-other counts w k (getD counts w 0 + 1) 0 (λ p. eqb-false w k e (sym p))) (omega arith)
+      go false e true false h = omega arith
+      go false e false few h = omega arith
 
 -- counts hold, for each node, its uses among the words from 3 to i
 abbrev pub Tally : List ℕ → List ℕ → ℕ → Type 0
@@ -65,26 +48,17 @@ unfolding howMany
 tally-none words k h = getD-replicate 1024 k 0 0 h
 
 module _ (words counts : List ℕ) (i : ℕ) (from : 3 ≤ i) (long : length counts ≡ 1024) (inv : Tally words counts i) where
-  pub tally-most : (k : ℕ) → k < 1024 → getD counts k 0 ≤ i
-  tally-most k h = omega (arith, inv k h, howMany-most (wordUses words k) 3 (i - 3))
+  pub tally-most : (k : ℕ) → getD counts k 0 ≤ i
+  tally-most k = go (ltb k 1024) refl
+    where
+      go : (b : Bool) → ltb k 1024 ≡ b → getD counts k 0 ≤ i
+      go true e = omega (arith, inv k (ltb-true k 1024 e), howMany-most (wordUses words k) 3 (i - 3))
+      go false e = let past : length counts ≤ k = omega (arith, ltb-false k 1024 e) in rw (List·getD-eq-default counts 0 past) (omega arith)
 
   -- one word more
-  more : (k : ℕ) → k < 1024 → (b : Bool) → eqb (usedAt words i) k ≡ b → howMany (wordUses words k) 3 (i + 1 - 3) ≡ getD counts k 0 + cond b 1 0
-  more k h b e =
+  pub tally-next : (n : ℕ) → inRecord words (ruleWordUses words) (nodeWordUses words) i ≡ isNode n → Tally words (oneMore counts n (word words i)) (i + 1)
+  unfolding wordUses
+  tally-next n told k hk =
       let here : 3 + (i - 3) ≡ i = omega arith in
       let next : i + 1 - 3 ≡ i - 3 + 1 = omega arith in
-      rw (next, howMany-more (wordUses words k) 3 (i - 3), here, names words i k (omega arith), e, inv k h)
-
-  pub tally-hit : (x : ℕ) → x ≡ usedAt words i → x < 1024 → Tally words (set counts x (getD counts x 0 + 1)) (i + 1)
-  tally-hit x e hx k hk = go (eqb x k) refl
-    where
-      go : (b : Bool) → eqb x k ≡ b → getD (set counts x (getD counts x 0 + 1)) k 0 ≡ howMany (wordUses words k) 3 (i + 1 - 3)
-      go true q =
-          let same : x ≡ k = eqb-true _ _ q in
-          rw (more k hk true (rw (← e) q), ← same) (getD-set-same counts x (getD counts x 0 + 1) 0 (omega arith))
-      go false q =
-          let other : k ≡ x → ⊥ = λ p. eqb-false _ _ q (sym p) in
-          rw (more k hk false (rw (← e) q), getD-set-other counts x k (getD counts x 0 + 1) 0 other) (omega arith)
-
-  pub tally-miss : (x : ℕ) → x ≡ usedAt words i → 1024 ≤ x → Tally words counts (i + 1)
-  tally-miss x e hx k hk = rw (more k hk false (rw (← e) (ne-eqb x k (omega arith)))) (omega arith)
+      rw (next, howMany-more (wordUses words k) 3 (i - 3), here, told, ← inv k hk) (more-at counts long n (word words i) k hk)

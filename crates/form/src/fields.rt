@@ -1,22 +1,19 @@
-// FIELD: the first word, in word order, that breaks the rules of its record.
+// FIELD: the first word, in word order, that breaks the rules of its record. The same scan counts the uses, for USE.
 ghost use mathlib.Core.Path.{_≡_};
-ghost use Prim.Native.Nat.{_+_, _-_, _<_};
-ghost use mathlib.Core.Bool.{_&&_};
+ghost use Prim.Native.Nat.{_<_};
+ghost use mathlib.Core.Bool.{_&&_, cond};
 ghost use lib.Dec.{leb};
-ghost use lib.ListN.{length};
-ghost use Rattle.laws.specs.Counting.{smallestFailing};
-ghost use Rattle.grammar.specs.Words.{word};
-ghost use Rattle.grammar.specs.Form.{isKind, isPart, nodeWordOk, ruleWordOk, wordOk};
+ghost use lib.ListN.{getD, replicate};
+ghost use Rattle.grammar.specs.Form.{isKind, isPart};
 ghost use Rattle.form.specs.Sorts;
 ghost use Rattle.form.specs.Scan;
-ghost use Rattle.form.specs.Scan.{Sized};
+ghost use Rattle.form.specs.Scan.{Scanned, Sized};
 use super::sorts::*;
+use super::uses::count_use;
 use table::records::kind_at;
 use table::records::literal_count;
 use table::records::node_count;
-use table::records::node_start;
 use table::records::rule_count;
-use table::records::rule_start;
 use table::records::word_at;
 
 fn between(low: u16, w: u16, high: u16) -> bool
@@ -50,7 +47,7 @@ fn is_part(words: &[u16], low: u16, high: u16, bound: u16, w: u16) -> bool
 // The word w is of the sort in force.
 fn passes(words: &[u16], bound: u16, start: usize, sort: u8, w: u16) -> bool
     requires { ⌜ start < 4294967296 ⌝ }
-    ensures { λ result. ⌜ result ≡ Sorts.passes (now (words .entry)) bound (word (now (words .entry)) (start + 1)) sort w ⌝ }
+    ensures { λ result. ⌜ result ≡ Sorts.passes (now (words .entry)) start bound sort w ⌝ }
 {
     match sort {
         BYTE => w < 256,
@@ -69,41 +66,29 @@ fn passes(words: &[u16], bound: u16, start: usize, sort: u8, w: u16) -> bool
     }
 }
 
-fn rule_word_ok(words: &[u16], r: u16, j: u16) -> bool
-    ensures { λ result. ⌜ result ≡ ruleWordOk (now (words .entry)) r j ⌝ }
+// The word w, whose sort in its record's table is `own`, is of the sort in force; then, where it uses a node, the use is counted. There is room for it.
+fn word_ok(
+    words: &[u16],
+    counts: &mut [u16; 1024],
+    bound: u16,
+    start: usize,
+    own: u8,
+    w: u16,
+) -> bool
+    requires { ⌜ start < 4294967296 ⌝ }
+    requires { ⌜ getD (now counts) w 0 < 65535 ⌝ }
+    ensures { λ result. ⌜ result ≡ Sorts.passes (now (words .entry)) start bound (Sorts.force (now (words .entry)) start own) w ⌝ }
+    ensures { λ result. ⌜ now (counts .exit) ≡ cond result (Scan.oneMore (now (counts .entry)) (Sorts.force (now (words .entry)) start own) w) (now (counts .entry)) ⌝ }
 {
-    let start = rule_start(r);
-    passes(
-        words,
-        node_count(words),
-        start,
-        rule_sort(words, r, j),
-        word_at(words, start + j as usize),
-    )
-}
-
-fn node_word_ok(words: &[u16], k: u16, j: u16) -> bool
-    ensures { λ result. ⌜ result ≡ nodeWordOk (now (words .entry)) k j ⌝ }
-{
-    let start = node_start(rule_count(words), k);
-    passes(
-        words,
-        k,
-        start,
-        node_sort(words, k, j),
-        word_at(words, start + j as usize),
-    )
-}
-
-// Word j of record q, rules first and then nodes.
-fn record_word_ok(words: &[u16], rules: u16, q: u16, j: u16) -> bool
-    ensures { λ result. ⌜ result ≡ Scan.recordWordOk (now (words .entry)) rules q j ⌝ }
-{
-    if q < rules {
-        rule_word_ok(words, q, j)
-    } else {
-        node_word_ok(words, q - rules, j)
+    if own == UNUSED {
+        return w == 0;
     }
+    let sort = in_force(words, start, own);
+    if !passes(words, bound, start, sort, w) {
+        return false;
+    }
+    count_use(counts, sort, w);
+    true
 }
 
 fn record_length(rules: u16, q: u16) -> u16
@@ -112,13 +97,23 @@ fn record_length(rules: u16, q: u16) -> u16
     if q < rules { 15 } else { 10 }
 }
 
-// The first bad word, in word order; the number of words where there is none.
-pub(crate) fn first_bad(words: &[u16]) -> usize
-    requires { ⌜ Sized (now words) ⌝ }
-    ensures { λ result. ⌜ Scan.found (length (now (words .entry))) result ≡ smallestFailing (wordOk (now (words .entry))) 3 (length (now (words .entry)) - 3) ⌝ }
+// "A part or argument has a smaller number than its node"; a rule's body and returned nodes may be any nodes.
+fn record_bound(rules: u16, nodes: u16, q: u16) -> u16
+    ensures { λ result. ⌜ result ≡ Scan.recordBound rules nodes q ⌝ }
 {
+    if q < rules { nodes } else { q - rules }
+}
+
+// The first bad word, in word order; the number of words where there is none. Then the counts, all 0 at first, are those of the uses.
+pub(crate) fn first_bad(words: &[u16], counts: &mut [u16; 1024]) -> usize
+    requires { ⌜ Sized (now words) ⌝ }
+    requires { ⌜ now counts ≡ replicate 1024 0 ⌝ }
+    ensures { λ result. ⌜ Scanned (now (words .entry)) (now (counts .exit)) result ⌝ }
+{
+    let rows = FIELD_SORTS;
     let rules = rule_count(words);
-    let records = rules + node_count(words);
+    let nodes = node_count(words);
+    let records = rules + nodes;
     let mut q: u16 = 0;
     let mut start: usize = 3;
     'records: loop {
@@ -126,10 +121,14 @@ pub(crate) fn first_bad(words: &[u16]) -> usize
             break 'records start;
         }
         let size = record_length(rules, q);
+        let bound = record_bound(rules, nodes, q);
+        let row = row_of(words[start]);
         let mut j: u16 = 0;
         while j < size {
-            if !record_word_ok(words, rules, q, j) {
-                break 'records start + j as usize;
+            let i = start + j as usize;
+            let own = record_sort(&rows, rules, q, row, j);
+            if !word_ok(words, counts, bound, start, own, words[i]) {
+                break 'records i;
             }
             j += 1;
         }

@@ -11,7 +11,7 @@ mod sorts;
 mod uses;
 
 use fields::first_bad;
-use uses::first_misused;
+use uses::first_other;
 
 // "Checks go 1, 2, 3, 4".
 pub fn check(words: &[u16], literals: &[u8]) -> Verdict
@@ -20,12 +20,14 @@ pub fn check(words: &[u16], literals: &[u8]) -> Verdict
     if !size_ok(words, literals.len()) {
         return Verdict::Size;
     }
-    let bad = first_bad(words);
+    let mut counts: [u16; 1024] = [0u16; 1024];
+    let bad = first_bad(words, &mut counts);
     if bad < words.len() {
         return Verdict::Field(bad as u16);
     }
-    let node = first_misused(words);
-    if node < node_count(words) {
+    let nodes = node_count(words);
+    let node = first_other(&counts, nodes);
+    if node < nodes {
         return Verdict::Use(node);
     }
     if 0 < inherited_count(words, 0) {

@@ -1,15 +1,11 @@
 // What each word of a record is expected to be: its sort, as a number.
 ghost use mathlib.Core.Path.{_≡_};
-ghost use Prim.Native.Nat.{_+_, _<_};
+ghost use Prim.Native.Nat.{_<_};
 ghost use lib.ListN.{getD};
-ghost use Rattle.grammar.specs.Words.{word};
-ghost use Rattle.grammar.specs.Form.{fieldSort, ruleSorts, unused};
 ghost use Rattle.form.specs.Sorts;
+ghost use Rattle.form.specs.Scan;
 use table::records::inherited_count;
-use table::records::node_start;
 use table::records::returned_count;
-use table::records::rule_count;
-use table::records::rule_start;
 use table::records::word_at;
 
 // The sorts. A field that a kind doesn't use is 0, and so is its sort.
@@ -52,7 +48,7 @@ pub const TYPE: u8 = 31;
 pub const KIND: u8 = 32;
 
 // "What each kind expects in its nine fields is one constant table over the kinds": a row a kind, from 0 on.
-const FIELD_SORTS: [[u8; 9]; 29] = [
+pub(crate) const FIELD_SORTS: [[u8; 9]; 29] = [
     [0, 0, 0, 0, 0, 0, 0, 0, 0], // 0 no such kind
     [0, 0, 0, 0, 0, 0, 0, 0, 0], // 1 empty
     [BYTE, 0, 0, 0, 0, 0, 0, 0, 0], // 2 terminal
@@ -103,26 +99,42 @@ const RULE_SORTS: [u8; 15] = [
     RETURNED_TYPE + 3,
 ];
 
-// The sort of field f, 0 to 8, of a kind. A kind without a row uses no field, nor does any kind past its ninth.
-fn field_sort(kind: u16, f: u16) -> u8
-    ensures { λ result. ⌜ Sorts.sortFor result ≡ fieldSort kind (f + 1) ⌝ }
+// The row of a kind. A number that is no kind's has the row of 0, in which no field is used; it is refused at its own word.
+pub(crate) fn row_of(kind: u16) -> u16
+    ensures { λ result. ⌜ result ≡ Sorts.rowOf kind ⌝ }
 {
-    if 29 <= kind {
-        return UNUSED;
-    }
-    if 9 <= f {
-        return UNUSED;
-    }
-    FIELD_SORTS[kind as usize][f as usize]
+    if kind < 29 { kind } else { 0 }
 }
 
+// The sort of word j of a rule.
 fn rule_record_sort(j: u16) -> u8
-    ensures { λ result. ⌜ Sorts.sortFor result ≡ getD ruleSorts j unused ⌝ }
+    requires { ⌜ j < 15 ⌝ }
+    ensures { λ result. ⌜ result ≡ getD Sorts.ruleNumbers j 0 ⌝ }
 {
-    if 15 <= j {
-        return UNUSED;
-    }
     RULE_SORTS[j as usize]
+}
+
+// The sort of word j of a node, from its row.
+fn node_record_sort(rows: &[[u8; 9]; 29], row: u16, j: u16) -> u8
+    requires { ⌜ (row < 29) × (j < 10) ⌝ }
+    ensures { λ result. ⌜ result ≡ Sorts.inRow (now (rows .entry)) row j ⌝ }
+{
+    if j == 0 {
+        return KIND;
+    }
+    rows[row as usize][j as usize - 1]
+}
+
+// The sort of word j of record q, rules first and then nodes. Where it is a node this is its row.
+pub(crate) fn record_sort(rows: &[[u8; 9]; 29], rules: u16, q: u16, row: u16, j: u16) -> u8
+    requires { ⌜ (row < 29) × (j < Scan.recordLength rules q) ⌝ }
+    ensures { λ result. ⌜ result ≡ Scan.recordSort (now (rows .entry)) rules q row j ⌝ }
+{
+    if q < rules {
+        rule_record_sort(j)
+    } else {
+        node_record_sort(rows, row, j)
+    }
 }
 
 // "Places past n or m hold 0": the sort of place i of four, of which `count` are in use.
@@ -133,11 +145,14 @@ fn within(i: u8, count: u16, sort: u8) -> u8
 }
 
 // The sort in force, in the record that starts at word `start`. A call's "counts are the callee's n and m".
-fn in_force(words: &[u16], start: usize, sort: u8) -> u8
+pub(crate) fn in_force(words: &[u16], start: usize, sort: u8) -> u8
     requires { ⌜ start < 4294967296 ⌝ }
-    ensures { λ result. ⌜ result ≡ Sorts.inForce (now (words .entry)) (word (now (words .entry)) (start + 1)) (word (now (words .entry)) (start + 6)) (Sorts.sortFor sort) ⌝ }
+    ensures { λ result. ⌜ result ≡ Sorts.force (now (words .entry)) start sort ⌝ }
 {
     if sort < ARGUMENT {
+        return sort;
+    }
+    if sort == KIND {
         return sort;
     }
     let a = word_at(words, start + 1);
@@ -155,23 +170,4 @@ fn in_force(words: &[u16], start: usize, sort: u8) -> u8
         return within(sort - RETURNED, m, EXPRESSION);
     }
     within(sort - RETURNED_TYPE, m, TYPE)
-}
-
-// The sort in force at word j of rule r.
-pub(crate) fn rule_sort(words: &[u16], r: u16, j: u16) -> u8
-    ensures { λ result. ⌜ result ≡ Sorts.ruleSort (now (words .entry)) r j ⌝ }
-{
-    in_force(words, rule_start(r), rule_record_sort(j))
-}
-
-// The sort in force at word j of node k.
-pub(crate) fn node_sort(words: &[u16], k: u16, j: u16) -> u8
-    ensures { λ result. ⌜ result ≡ Sorts.nodeSort (now (words .entry)) k j ⌝ }
-{
-    if j == 0 {
-        return KIND;
-    }
-    let start = node_start(rule_count(words), k);
-    let kind = word_at(words, start);
-    in_force(words, start, field_sort(kind, j - 1))
 }

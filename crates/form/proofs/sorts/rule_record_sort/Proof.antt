@@ -1,19 +1,16 @@
-use Rattle.form.proofs.Rows.{numberOf}
-use Rattle.form.proofs.Rows.{no-rule-word, rule-sort}
+use Rattle.form.specs.Sorts.{numberOf}
 use Rattle.grammar.specs.Form.{ruleSorts}
+use mathlib.Core.Path.{refl}
 use borrow.Author.Needs.{needs}
 use Rattle.form.proofs.sorts.rule_record_sort.Statement.{statement}
 use Rattle.form.proofs.sorts.rule_record_sort.Tie as tie
 
-returns : tie.Need-returns
-returns c = no-rule-word (c .before .args .j) (c .if1 .taken)
-
 array-read-result : tie.Need-array-read-result
 array-read-result c = search needs
 
-returns-2 : tie.Need-returns-2
+returns : tie.Need-returns
 unfolding ruleSorts numberOf
-returns-2 c = rule-sort (c .before .args .j)
+returns c = refl
 
 pub rule-record-sort-spec : {M : Type 1} → statement M
-rule-record-sort-spec = tie.close (tie.spec returns array-read-result returns-2)
+rule-record-sort-spec = tie.close (tie.spec array-read-result returns)
