@@ -6,7 +6,7 @@ use reader_tests::subject::{Reference, Subject};
 use std::time::{Duration, Instant};
 
 /// Both clear W words, as document 01 asks of a run.
-const INDEPENDENT: Reference = Reference {
+pub const INDEPENDENT: Reference = Reference {
     work_words: WORK_WORDS,
 };
 

@@ -1,6 +1,8 @@
 //! Styrmflo: what the benchmark runs, and how it takes times.
 
+pub mod agreement;
 pub mod contenders;
+pub mod fast;
 pub mod grammars;
 pub mod lpeg;
 pub mod print;

@@ -113,7 +113,7 @@ impl Coverage {
     }
 
     /// What was counted, by name.
-    fn counts(&self) -> Vec<(String, u64)> {
+    pub fn counts(&self) -> Vec<(String, u64)> {
         let mut all = self.answers.counts();
         for (name, &count) in VALUES.iter().zip(&self.values) {
             all.push((format!("value {name}"), count));

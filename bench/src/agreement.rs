@@ -1,0 +1,81 @@
+//! The fast contender beside the independent implementation: a time is worth nothing if the answer is another.
+
+use crate::contenders::INDEPENDENT;
+use crate::fast::Fast;
+use reader_tests::compare::coverage::Coverage;
+use reader_tests::compare::one::compare_case;
+use reader_tests::compare::shrink::{shown, shrink, smaller_case};
+use reader_tests::compare::{compare_kinds, whole};
+use reader_tests::exported::WORK_WORDS;
+use reader_tests::random::cases::{run_case, Case};
+use reader_tests::random::prng::Random;
+use reader_tests::vectors::judged;
+
+/// Case file and stored file; listings are not the fast contender's.
+const VECTORS: [(&str, &str, &str); 3] = [
+    (
+        "table",
+        include_str!("../../tests/vectors/table.cases"),
+        include_str!("../../tests/vectors/table.stored"),
+    ),
+    (
+        "typing",
+        include_str!("../../tests/vectors/typing.cases"),
+        include_str!("../../tests/vectors/typing.stored"),
+    ),
+    (
+        "runs",
+        include_str!("../../tests/vectors/runs.cases"),
+        include_str!("../../tests/vectors/runs.stored"),
+    ),
+];
+
+/// Prints what was tried, or tells the first difference.
+pub fn all(cases: u64, first_seed: u64) -> Result<(), String> {
+    for (name, items, stored) in VECTORS {
+        let count = judged(items, stored, &Fast).map_err(|told| format!("{name}: {told}"))?;
+        println!("vectors of {name}: {count} as stored");
+    }
+    let count = compare_kinds(&INDEPENDENT, &Fast, 0..=u16::MAX)?;
+    println!("{count} words as kinds: the same");
+    random_cases(cases, first_seed)
+}
+
+fn random_cases(cases: u64, first_seed: u64) -> Result<(), String> {
+    let mut coverage = Coverage::default();
+    for seed in first_seed..first_seed + cases {
+        let random = &mut Random::new(seed);
+        let hurt = random.chance(200);
+        let case = Case::Run(run_case(random, hurt, WORK_WORDS));
+        compare_case(&INDEPENDENT, &Fast, &case, &mut coverage)
+            .map_err(|told| difference(seed, case, told))?;
+    }
+    println!("{cases} random cases from seed {first_seed} on: the same");
+    for (name, count) in coverage.counts().iter().filter(|(name, _)| is_ours(name)) {
+        println!("{name}: {count}");
+    }
+    let missing = coverage.missing().into_iter();
+    let missing: Vec<String> = missing.filter(|name| is_ours(name)).collect();
+    whole(false, &missing, &coverage.strange())
+}
+
+/// Listings and parts that don't fit aren't asked for.
+fn is_ours(name: &str) -> bool {
+    !["read:", "write:", "part"]
+        .iter()
+        .any(|other| name.starts_with(other))
+}
+
+/// The case, as small as it still differs.
+fn difference(seed: u64, case: Case, told: String) -> String {
+    let differs = |case: &Case| {
+        let unseen = &mut Coverage::default();
+        compare_case(&INDEPENDENT, &Fast, case, unseen).err()
+    };
+    let small = shrink(case, |case| {
+        smaller_case(case, &|case| differs(case).is_some())
+    });
+    let told_of_small = differs(&small).unwrap_or_default();
+    let small = shown(&small);
+    format!("seed {seed}: {told}\nshrunk: {told_of_small}\n{small}")
+}

@@ -1,0 +1,13 @@
+//! Compares the fast contender with the independent implementation: stored vectors, words as kinds, random and damaged tables with messages, budgets and work areas, and
+//! runs too long for the random ones. Every answer and all work memory is compared.
+//! Arguments: how many random cases, the first seed.
+
+use reader_bench::agreement;
+use reader_tests::arguments::asked;
+
+fn main() {
+    if let Err(difference) = agreement::all(asked(0, 20_000), asked(1, 1)) {
+        println!("{difference}");
+        std::process::exit(1);
+    }
+}
