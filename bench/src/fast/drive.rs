@@ -6,6 +6,7 @@
 //! Where a failing node must give back its slots, only those of a choice, repeat or not are given back: no one can see them between a failing sequence, bind or call and
 //! the next of these around it. The exception that document 01 makes of a not can only be seen by a not whose part it is.
 
+use super::attributes::Attributes;
 use super::expressions::{Held, Sight};
 use super::slots::{Pile, PAIRS};
 use super::table::*;
@@ -33,94 +34,117 @@ pub struct Answer {
 /// What comes next.
 enum Next {
     Visit(usize),
-    Matched,
-    Failed,
+    /// A node is through: whether it matched.
+    Through(bool),
     End(u32, u32),
 }
 
-pub struct Drive<'a> {
-    sight: Sight<'a>,
+/// What changes at every visit: a few numbers that the compiler can keep in registers, since every function over them is inlined.
+struct Walk<'a> {
+    nodes: &'a [Node],
+    message: &'a [u8],
     frames: &'a mut [Frame; FRAMES],
-    pile: Pile<'a>,
-    budget: u32,
-    /// Visits that may still be made.
-    left: u32,
     /// The latest frame.
     top: u8,
+    /// Visits that may still be made.
+    left: u32,
     depth: u32,
     at: usize,
-    values: [Held; FOUR],
 }
 
-impl<'a> Drive<'a> {
-    pub fn new(
-        sight: Sight<'a>,
-        budget: u32,
-        frames: &'a mut [Frame; FRAMES],
-        pairs: &'a mut [[u32; 2]; PAIRS],
-    ) -> Drive<'a> {
-        frames[0] = [START << 16, 0, 0, 0];
-        Drive {
-            sight,
-            frames,
-            pile: Pile::new(pairs),
-            budget,
-            left: budget,
-            top: 0,
-            depth: 1,
-            at: 0,
-            values: [Held::NOTHING; FOUR],
+pub fn drive(
+    sight: Sight,
+    budget: u32,
+    frames: &mut [Frame; FRAMES],
+    pairs: &mut [[u32; 2]; PAIRS],
+) -> Answer {
+    frames[0] = [START << 16, 0, 0, 0];
+    let mut attributes = Attributes {
+        sight,
+        pile: Pile::new(pairs),
+    };
+    let mut walk = Walk {
+        nodes: sight.table.nodes,
+        message: sight.message,
+        frames,
+        top: 0,
+        left: budget,
+        depth: 1,
+        at: 0,
+    };
+    let (number, place) = walk.ending(&mut attributes);
+    let mut answer = Answer {
+        number,
+        place,
+        consumed: 0,
+        visits: budget - walk.left,
+        values: [Held::NOTHING; FOUR],
+    };
+    if number == DONE {
+        match attributes.returned(&sight.table.rules[0]) {
+            Ok(values) => {
+                answer.consumed = walk.at as u32;
+                answer.values = values;
+            }
+            Err(value) => (answer.number, answer.place) = value.ending(),
         }
     }
+    answer
+}
 
-    pub fn run(mut self) -> Answer {
-        let body = number(&self.sight.table.rules[0], BODY);
-        let mut next = Next::Visit(body);
+impl Walk<'_> {
+    /// Number and place of the answer; DONE before the start rule's returned nodes are evaluated.
+    #[inline(always)]
+    fn ending(&mut self, attributes: &mut Attributes) -> (u32, u32) {
+        let mut node = number(&attributes.sight.table.rules[0], BODY);
         loop {
-            next = match next {
-                Next::Visit(node) => self.visit(node),
-                Next::Matched => self.matched(),
-                Next::Failed => self.failed(),
-                Next::End(number, place) => return self.answer(number, place),
+            let mut matched = match self.visit(attributes, node) {
+                Next::Visit(part) => {
+                    node = part;
+                    continue;
+                }
+                Next::Through(matched) => matched,
+                Next::End(number, place) => return (number, place),
+            };
+            node = loop {
+                let next = match matched {
+                    true => self.matched(attributes),
+                    false => self.failed(attributes),
+                };
+                match next {
+                    Next::Visit(part) => break part,
+                    Next::Through(through) => matched = through,
+                    Next::End(number, place) => return (number, place),
+                }
             };
         }
     }
 
-    fn answer(self, number: u32, place: u32) -> Answer {
-        Answer {
-            number,
-            place,
-            consumed: if number == DONE { self.at as u32 } else { 0 },
-            visits: self.budget - self.left,
-            values: self.values,
-        }
-    }
-
-    /// The depth has been looked at: it is that of a first part or was found by `open`.
+    /// Applies a node whose depth has been looked at.
     #[inline(always)]
-    fn visit(&mut self, node: usize) -> Next {
+    fn visit(&mut self, attributes: &mut Attributes, node: usize) -> Next {
         if self.left == 0 {
             return Next::End(BUDGET, node as u32);
         }
         self.left -= 1;
-        let record = &self.sight.table.nodes[node];
+        let record = &self.nodes[node];
         match record[0] {
-            TERMINAL => self.terminal(record),
+            EMPTY => Next::Through(true),
+            TERMINAL => Next::Through(self.matches(record)),
+            UPDATE => self.update(attributes, record),
+            CONSTRAINT => self.constraint(attributes, node, record),
+            CALL => self.call(attributes, node, record),
             SEQUENCE => self.sequence(record),
-            CHOICE => self.choice(record),
-            REPEAT => self.repeat(record),
-            NOT => self.not(record),
-            CALL => self.call(node, record),
-            BIND => self.bind(record),
-            UPDATE => self.update(record),
-            CONSTRAINT => self.constraint(node, record),
-            _ => Next::Matched,
+            CHOICE => self.choice(attributes, record),
+            REPEAT => self.repeat(attributes, record),
+            NOT => self.not(attributes, record),
+            _ => self.bind(record),
         }
     }
 
     #[inline(always)]
     fn matches(&mut self, terminal: &Node) -> bool {
-        match self.sight.message.get(self.at) {
+        match self.message.get(self.at) {
             Some(&byte) if u16::from(byte) == terminal[1] => {
                 self.at += 1;
                 true
@@ -130,161 +154,137 @@ impl<'a> Drive<'a> {
     }
 
     #[inline(always)]
-    fn terminal(&mut self, record: &Node) -> Next {
-        if self.matches(record) {
-            Next::Matched
-        } else {
-            Next::Failed
-        }
-    }
-
-    /// Visits a part that is a terminal: whether it matched. Nothing if the part is another, or the visit can't be made.
-    #[inline(always)]
-    fn at_once(&mut self, part: usize) -> Option<bool> {
-        let record = &self.sight.table.nodes[part];
-        if record[0] != TERMINAL || self.left == 0 || self.depth == MOST_DEPTH {
-            return None;
-        }
-        self.left -= 1;
-        Some(self.matches(record))
-    }
-
-    #[inline(always)]
     fn sequence(&mut self, record: &Node) -> Next {
         let [first, second] = [record[1], record[2]].map(usize::from);
-        match self.at_once(first) {
-            Some(true) => self.deeper(second),
-            Some(false) => Next::Failed,
-            None => self.open(u32::from(SEQUENCE) << 16 | second as u32, first, 0),
+        if self.depth == MOST_DEPTH {
+            return self.too_deep(first);
+        }
+        let part = &self.nodes[first];
+        if part[0] != TERMINAL {
+            return self.open(SEQUENCE, second, first, self.at as u32, 0);
+        }
+        if self.left == 0 {
+            return Next::End(BUDGET, first as u32);
+        }
+        self.left -= 1;
+        if self.matches(part) {
+            self.depth += 1;
+            Next::Visit(second)
+        } else {
+            Next::Through(false)
         }
     }
 
     #[inline(always)]
-    fn choice(&mut self, record: &Node) -> Next {
+    fn choice(&mut self, attributes: &mut Attributes, record: &Node) -> Next {
         let [first, second] = [record[1], record[2]].map(usize::from);
-        match self.at_once(first) {
-            Some(true) => Next::Matched,
-            Some(false) => self.deeper(second),
-            None => {
-                let mark = self.pile.open();
-                self.open(u32::from(CHOICE) << 16 | second as u32, first, mark)
-            }
+        if self.depth == MOST_DEPTH {
+            return self.too_deep(first);
+        }
+        let part = &self.nodes[first];
+        if part[0] != TERMINAL {
+            return self.open(
+                CHOICE,
+                second,
+                first,
+                self.at as u32,
+                attributes.pile.open(),
+            );
+        }
+        if self.left == 0 {
+            return Next::End(BUDGET, first as u32);
+        }
+        self.left -= 1;
+        if self.matches(part) {
+            Next::Through(true)
+        } else {
+            self.depth += 1;
+            Next::Visit(second)
         }
     }
 
-    /// The second part's visit, at the depth of the first.
     #[inline(always)]
-    fn deeper(&mut self, second: usize) -> Next {
-        self.depth += 1;
-        Next::Visit(second)
-    }
-
-    #[inline(always)]
-    fn repeat(&mut self, record: &Node) -> Next {
+    fn repeat(&mut self, attributes: &mut Attributes, record: &Node) -> Next {
         let part = number(record, 1);
-        loop {
-            match self.at_once(part) {
-                Some(true) => {}
-                Some(false) => return Next::Matched,
-                None => {
-                    let mark = self.pile.open();
-                    return self.open(u32::from(REPEAT) << 16 | part as u32, part, mark);
-                }
-            }
+        if self.depth == MOST_DEPTH {
+            return self.too_deep(part);
         }
+        self.open(REPEAT, part, part, self.at as u32, attributes.pile.open())
     }
 
     #[inline(always)]
-    fn not(&mut self, record: &Node) -> Next {
-        let mark = self.pile.open();
-        self.open(u32::from(NOT) << 16, number(record, 1), mark)
+    fn not(&mut self, attributes: &mut Attributes, record: &Node) -> Next {
+        let part = number(record, 1);
+        if self.depth == MOST_DEPTH {
+            return self.too_deep(part);
+        }
+        self.open(NOT, 0, part, self.at as u32, attributes.pile.open())
     }
 
     #[inline(always)]
     fn bind(&mut self, record: &Node) -> Next {
-        self.open(
-            u32::from(BIND) << 16 | u32::from(record[1]),
-            number(record, 2),
-            0,
-        )
-    }
-
-    /// A node waits for its part: "the budget is looked at first, then depth".
-    #[inline(always)]
-    fn open(&mut self, waits: u32, part: usize, mark: u32) -> Next {
+        let part = number(record, 2);
         if self.depth == MOST_DEPTH {
             return self.too_deep(part);
         }
+        self.open(BIND, number(record, 1), part, self.at as u32, 0)
+    }
+
+    /// A node waits for its part.
+    #[inline(always)]
+    fn open(&mut self, waits: u16, needs: usize, part: usize, from: u32, mark: u32) -> Next {
         self.depth += 1;
         self.top += 1;
-        self.frames[usize::from(self.top)] = [waits, self.at as u32, self.depth, mark];
+        self.frames[usize::from(self.top)] = [
+            u32::from(waits) << 16 | needs as u32,
+            from,
+            self.depth,
+            mark,
+        ];
         Next::Visit(part)
     }
 
+    #[inline(always)]
     fn too_deep(&self, node: usize) -> Next {
         let number = if self.left == 0 { BUDGET } else { DEEP };
         Next::End(number, node as u32)
     }
 
     #[inline(always)]
-    fn value(&self, node: usize) -> Held {
-        self.sight.value(self.pile.slots(), node)
+    fn update(&mut self, attributes: &mut Attributes, record: &Node) -> Next {
+        match attributes.update(record) {
+            None => Next::Through(true),
+            Some(value) => ended_by(value),
+        }
     }
 
     #[inline(always)]
-    fn update(&mut self, record: &Node) -> Next {
-        let value = self.value(number(record, 2));
-        if value.ends_the_run() {
-            return ended_by(value);
-        }
-        self.pile.set(number(record, 1), value);
-        Next::Matched
-    }
-
-    #[inline(always)]
-    fn constraint(&mut self, node: usize, record: &Node) -> Next {
-        let value = self.value(number(record, 1));
-        if value.ends_the_run() {
-            return ended_by(value);
-        }
+    fn constraint(&mut self, attributes: &mut Attributes, node: usize, record: &Node) -> Next {
+        let value = attributes.value(number(record, 1));
         match value.as_bool() {
-            Some(true) => Next::Matched,
-            Some(false) => Next::Failed,
+            Some(holds) => Next::Through(holds),
+            None if value.ends_the_run() => ended_by(value),
             None => Next::End(STUCK, node as u32),
         }
     }
 
     #[inline(always)]
-    fn call(&mut self, node: usize, record: &Node) -> Next {
-        let callee = &self.sight.table.rules[number(record, 1)];
-        let mut inherited = [Held::NOTHING; FOUR];
-        let nodes = &record[ARGUMENTS..][..number(callee, INHERITED)];
-        for (value, &argument) in inherited.iter_mut().zip(nodes) {
-            *value = self.value(usize::from(argument));
-            if value.ends_the_run() {
-                return ended_by(*value);
-            }
+    fn call(&mut self, attributes: &mut Attributes, node: usize, record: &Node) -> Next {
+        let callee = &attributes.sight.table.rules[number(record, 1)];
+        let (first, mark) = (attributes.pile.first, attributes.pile.mark);
+        if let Some(value) = attributes.call(record, callee) {
+            return ended_by(value);
         }
         let body = number(callee, BODY);
         if self.depth == MOST_DEPTH {
             return self.too_deep(body);
         }
-        let (first, mark) = (self.pile.first, self.pile.mark);
-        self.pile.fresh(&inherited);
-        self.depth += 1;
-        self.top += 1;
-        self.frames[usize::from(self.top)] = [
-            u32::from(CALL) << 16 | node as u32,
-            first as u32,
-            self.depth,
-            mark,
-        ];
-        Next::Visit(body)
+        self.open(CALL, node, body, first as u32, mark)
     }
 
     /// The part that the latest frame waits for has matched.
     #[inline(always)]
-    fn matched(&mut self) -> Next {
+    fn matched(&mut self, attributes: &mut Attributes) -> Next {
         let top = usize::from(self.top);
         let [waits, from, depth, mark] = self.frames[top];
         let needs = (waits & 0xffff) as usize;
@@ -296,108 +296,85 @@ impl<'a> Drive<'a> {
             }
             CHOICE => {
                 self.top -= 1;
-                self.pile.hand_on(mark);
-                Next::Matched
+                attributes.pile.hand_on(mark);
+                Next::Through(true)
             }
             REPEAT => {
-                self.pile.hand_on(mark);
+                attributes.pile.hand_on(mark);
                 self.frames[top][1] = self.at as u32;
-                self.frames[top][3] = self.pile.open();
+                self.frames[top][3] = attributes.pile.open();
                 self.depth = depth;
                 Next::Visit(needs)
             }
-            NOT => self.not_matched(from, depth, mark),
+            NOT => self.not_matched(attributes, from, depth, mark),
             BIND => {
                 self.top -= 1;
-                let text = Held::of_message(from as usize, self.at);
-                self.pile.set(needs, text);
-                Next::Matched
+                attributes.bind(needs, from as usize, self.at);
+                Next::Through(true)
             }
-            CALL => self.returned(needs, from, mark),
-            _ => self.done(),
+            CALL => self.returned(attributes, needs, from, mark),
+            _ => Next::End(DONE, 0),
         }
     }
 
     /// The part of a not has matched: the not fails and hands on the slots. If it is itself the part of a not, that one matches and hands them on.
     #[inline(always)]
-    fn not_matched(&mut self, from: u32, depth: u32, mark: u32) -> Next {
+    fn not_matched(
+        &mut self,
+        attributes: &mut Attributes,
+        from: u32,
+        depth: u32,
+        mark: u32,
+    ) -> Next {
         self.top -= 1;
         let [waits, _, outer_depth, outer_mark] = self.frames[usize::from(self.top)];
         if waits != u32::from(NOT) << 16 || outer_depth != depth - 1 {
-            return Next::Failed;
+            return Next::Through(false);
         }
         self.top -= 1;
         self.at = from as usize;
-        self.pile.hand_on(mark);
-        self.pile.hand_on(outer_mark);
-        Next::Matched
-    }
-
-    /// The returned nodes' values, or the one that ends the run.
-    #[inline(always)]
-    fn returned_values(&self, rule: &Rule) -> Result<[Held; FOUR], Held> {
-        let mut values = [Held::NOTHING; FOUR];
-        let nodes = &rule[RETURNED_NODES..][..number(rule, RETURNED)];
-        for (value, &node) in values.iter_mut().zip(nodes) {
-            *value = self.value(usize::from(node));
-            if value.ends_the_run() {
-                return Err(*value);
-            }
-        }
-        Ok(values)
+        attributes.pile.hand_on(mark);
+        attributes.pile.hand_on(outer_mark);
+        Next::Through(true)
     }
 
     #[inline(always)]
-    fn returned(&mut self, node: usize, first: u32, mark: u32) -> Next {
-        let record = &self.sight.table.nodes[node];
-        let callee = &self.sight.table.rules[number(record, 1)];
-        let values = match self.returned_values(callee) {
-            Ok(values) => values,
-            Err(value) => return ended_by(value),
-        };
+    fn returned(
+        &mut self,
+        attributes: &mut Attributes,
+        node: usize,
+        first: u32,
+        mark: u32,
+    ) -> Next {
         self.top -= 1;
-        self.pile.first = first as usize;
-        self.pile.mark = mark;
-        let receivers = &record[RECEIVERS..][..number(callee, RETURNED)];
-        for (&slot, value) in receivers.iter().zip(values) {
-            self.pile.set(usize::from(slot), value);
-        }
-        Next::Matched
-    }
-
-    fn done(&mut self) -> Next {
-        match self.returned_values(&self.sight.table.rules[0]) {
-            Ok(values) => {
-                self.values = values;
-                Next::End(DONE, 0)
-            }
-            Err(value) => ended_by(value),
+        match attributes.receive(node, first as usize, mark) {
+            None => Next::Through(true),
+            Some(value) => ended_by(value),
         }
     }
 
     /// The part that the latest frame waits for has failed.
     #[inline(always)]
-    fn failed(&mut self) -> Next {
+    fn failed(&mut self, attributes: &mut Attributes) -> Next {
         let [waits, from, depth, mark] = self.frames[usize::from(self.top)];
         self.top = self.top.wrapping_sub(1);
         match (waits >> 16) as u16 {
             CHOICE => {
-                self.pile.give_back(mark);
+                attributes.pile.give_back(mark);
                 self.at = from as usize;
                 self.depth = depth;
                 Next::Visit((waits & 0xffff) as usize)
             }
             REPEAT | NOT => {
-                self.pile.give_back(mark);
+                attributes.pile.give_back(mark);
                 self.at = from as usize;
-                Next::Matched
+                Next::Through(true)
             }
             CALL => {
-                self.pile.first = from as usize;
-                self.pile.mark = mark;
-                Next::Failed
+                attributes.pile.back_to(from as usize, mark);
+                Next::Through(false)
             }
-            SEQUENCE | BIND => Next::Failed,
+            SEQUENCE | BIND => Next::Through(false),
             _ => Next::End(NOMATCH, 0),
         }
     }

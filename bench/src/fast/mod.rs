@@ -4,6 +4,7 @@
 //! since a display has the same words before it at every message, and it answers to every table, message and budget as document 01 says (`bench/src/bin/agree.rs`).
 //! Unlike the proved reader it recurses over expressions and in the type check.
 
+mod attributes;
 mod checks;
 mod drive;
 mod expressions;

@@ -1,6 +1,6 @@
 //! Bench and display runs: the checks in order, the run, the answer record, the work area cleared.
 
-use super::drive::{Answer, Drive, Frame, FRAMES};
+use super::drive::{drive, Answer, Frame, FRAMES};
 use super::expressions::Sight;
 use super::slots::PAIRS;
 use super::table::Records;
@@ -47,7 +47,7 @@ fn answer(sight: Sight, budget: u32, work: &mut Work) -> Answer {
     let (Some(frames), Some(pairs)) = (frames, pairs) else {
         unreachable!("W words hold both");
     };
-    Drive::new(sight, budget, frames, pairs).run()
+    drive(sight, budget, frames, pairs)
 }
 
 fn record(answer: Answer) -> Record {

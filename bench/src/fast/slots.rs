@@ -7,7 +7,7 @@
 use super::expressions::{Held, Slots};
 use reader_tests::reference::table::SLOTS;
 
-pub const PAIRS: usize = SLOTS * 256;
+pub const PAIRS: usize = SLOTS * 257;
 
 /// Where the pile ends (upper half), and a bit for each slot whose value needn't be kept (lower half): what a node remembers when it opens.
 pub type Mark = u32;
@@ -39,7 +39,9 @@ impl<'a> Pile<'a> {
     }
 
     pub fn slots(&self) -> &Slots {
-        self.pairs[self.first..].first_chunk().expect("sixteen slots")
+        self.pairs[self.first..]
+            .first_chunk()
+            .expect("sixteen slots")
     }
 
     /// A called rule's slots: the inherited, others unset. None need be kept: if its body fails, they are gone.
@@ -53,6 +55,14 @@ impl<'a> Pile<'a> {
         self.mark = (self.first + SLOTS) as u32 * A_PAIR | ALL_KEPT;
     }
 
+    /// The slots of a caller, as they were at the call.
+    #[inline(always)]
+    pub fn back_to(&mut self, first: usize, mark: Mark) {
+        self.first = first;
+        self.mark = mark;
+    }
+
+    #[inline(always)]
     pub fn set(&mut self, slot: usize, held: Held) {
         let place = self.first + slot;
         if self.mark & 1 << slot == 0 {
