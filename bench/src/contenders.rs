@@ -1,11 +1,12 @@
-//! The two contenders, and the time each takes for the same job.
+//! The three contenders, and the time each takes for the same job.
 
+use crate::fast::Fast;
 use reader_tests::exported::WORK_WORDS;
 use reader_tests::library::Library;
 use reader_tests::subject::{Reference, Subject};
 use std::time::{Duration, Instant};
 
-/// Both clear W words, as document 01 asks of a run.
+/// Each clears W words, as document 01 asks of a run.
 pub const INDEPENDENT: Reference = Reference {
     work_words: WORK_WORDS,
 };
@@ -20,17 +21,16 @@ const SAMPLE: Duration = Duration::from_millis(2);
 pub struct Times {
     pub proved: f64,
     pub independent: f64,
+    /// Nothing where the fast contender has no part: it neither reads nor writes listings.
+    pub fast: Option<f64>,
 }
 
 impl Times {
-    pub fn ratio(&self) -> f64 {
-        self.proved / self.independent
-    }
-
     pub fn each(&self, count: f64) -> Times {
         Times {
             proved: self.proved / count,
             independent: self.independent / count,
+            fast: self.fast.map(|fast| fast / count),
         }
     }
 
@@ -38,26 +38,46 @@ impl Times {
         Times {
             proved: self.proved - other.proved,
             independent: self.independent - other.independent,
+            fast: self.fast.zip(other.fast).map(|(fast, other)| fast - other),
         }
+    }
+}
+
+/// What all three do.
+pub fn measure(job: &mut dyn FnMut(&dyn Subject)) -> Times {
+    let [proved, independent, fast] = least_times(job, [&Library, &INDEPENDENT, &Fast]);
+    Times {
+        proved,
+        independent,
+        fast: Some(fast),
+    }
+}
+
+/// What the fast contender doesn't do.
+pub fn measure_listing(job: &mut dyn FnMut(&dyn Subject)) -> Times {
+    let [proved, independent] = least_times(job, [&Library, &INDEPENDENT]);
+    Times {
+        proved,
+        independent,
+        fast: None,
     }
 }
 
 /// The contenders take turns; of each the least time counts, since whatever else
 /// the machine does can only add to it.
-pub fn measure(job: &mut dyn FnMut(&dyn Subject)) -> Times {
-    let contenders: [&dyn Subject; 2] = [&Library, &INDEPENDENT];
+fn least_times<const N: usize>(
+    job: &mut dyn FnMut(&dyn Subject),
+    contenders: [&dyn Subject; N],
+) -> [f64; N] {
     let goes = contenders.map(|contender| goes_of_a_sample(job, contender));
-    let mut least = [f64::INFINITY; 2];
+    let mut least = [f64::INFINITY; N];
     for _ in 0..ROUNDS {
         for (index, contender) in contenders.into_iter().enumerate() {
             let time = sample(job, contender, goes[index]);
             least[index] = least[index].min(time);
         }
     }
-    Times {
-        proved: least[0],
-        independent: least[1],
-    }
+    least
 }
 
 /// Nanoseconds a go.

@@ -1,4 +1,4 @@
-//! Lines of a table: a name, figures, both times and their ratio.
+//! Lines of a table: a name, figures, the times, and after each time but the first the ratio of the first to it.
 
 use crate::contenders::Times;
 
@@ -8,9 +8,12 @@ pub fn heading(title: &str, figures: &[&str], unit: &str) {
     for figure in figures {
         line += &format!(" {figure:>12}");
     }
-    println!("{line} {:>14} {:>14} {:>6}", "proved", "Rust", "ratio");
+    println!(
+        "{line} {:>14} {:>14} {:>6} {:>14} {:>6}",
+        "proved", "Rust", "ratio", "fast", "ratio"
+    );
     let pad = 44 + 13 * figures.len();
-    println!("{:<pad$} {unit:>14} {unit:>14}", "");
+    println!("{:<pad$} {unit:>14} {unit:>14} {:>6} {unit:>14}", "", "");
 }
 
 pub fn line(name: &str, figures: &[f64], times: Times) {
@@ -18,7 +21,16 @@ pub fn line(name: &str, figures: &[f64], times: Times) {
     for figure in figures {
         line += &format!(" {figure:>12.0}");
     }
-    let (proved, independent) = (times.proved, times.independent);
-    let ratio = times.ratio();
-    println!("{line} {proved:>14.2} {independent:>14.2} {ratio:>6.2}");
+    line += &format!(" {:>14.2}", times.proved);
+    line += &beside(times.proved, times.independent);
+    if let Some(fast) = times.fast {
+        line += &beside(times.proved, fast);
+    }
+    println!("{line}");
+}
+
+/// A time and the ratio of the proved reader's to it.
+fn beside(proved: f64, time: f64) -> String {
+    let ratio = proved / time;
+    format!(" {time:>14.2} {ratio:>6.2}")
 }

@@ -1,6 +1,6 @@
 //! What is measured, a table a section.
 
-use crate::contenders::{measure, Times};
+use crate::contenders::{measure, measure_listing, Times};
 use crate::grammars::*;
 use crate::lpeg;
 use crate::print::{heading, line};
@@ -76,11 +76,11 @@ pub fn listings() {
     });
     let (mut words, mut literals) = (work.words.clone(), work.literals.clone());
     let mut text = vec![0; listing.len()];
-    let read = measure(&mut |contender| {
+    let read = measure_listing(&mut |contender| {
         let answer = contender.read(black_box(listing.as_bytes()), &mut words, &mut literals);
         black_box(answer);
     });
-    let write = measure(&mut |contender| {
+    let write = measure_listing(&mut |contender| {
         let answer = contender.write(black_box(&work.words), &work.literals, &mut text);
         black_box(answer);
     });
@@ -115,17 +115,19 @@ pub fn growth() {
 pub fn plain_grammars() {
     let bytes = LONGEST as f64;
     let works = [("repeat", repeat(LONGEST)), ("choices", choices(LONGEST))];
-    let figures = lpeg::figures();
+    let lpeg = lpeg::figures();
     heading("Plain grammars (b) and (e)", &[], "ns a byte");
     for (name, work) in &works {
-        line(name, &[], time_with_budget(work, u32::MAX).each(bytes));
-    }
-    match figures {
-        Err(why) => println!("{why}"),
-        Ok(figures) => {
-            for (name, time) in figures {
-                println!("{:<44} {time:>14.2}", format!("{name} in LPeg"));
-            }
+        let times = time_with_budget(work, u32::MAX).each(bytes);
+        line(name, &[], times);
+        let figures = lpeg.iter().flatten();
+        for (_, time) in figures.filter(|(known, _)| known == name) {
+            let ratio = times.proved / time;
+            let name = format!("{name} in LPeg");
+            println!("{name:<44} {time:>14.2}; proved to that {ratio:.2}");
         }
+    }
+    if let Err(why) = lpeg {
+        println!("{why}");
     }
 }

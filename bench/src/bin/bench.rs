@@ -1,11 +1,12 @@
-//! Prints the proved reader's times beside the independent implementation's; docs/SPEED.md tells what they mean.
+//! Prints the proved reader's times beside those of the other contenders; docs/SPEED.md tells what they mean.
 
 use reader_bench::contenders::ROUNDS;
 use reader_bench::sections;
 
 fn main() {
-    println!("Proved: the proved reader, by its static library. Rust: the independent implementation of tests/.");
-    println!("Both in release for this processor; they take turns, and of each the least of {ROUNDS} rounds is shown.");
+    println!("Proved: the proved reader, by its static library. Rust: the independent implementation of tests/, written for reading.");
+    println!("Fast: an interpreter of the same tables in safe Rust, written for speed (bench/src/fast). A ratio is the proved reader's time to that before it.");
+    println!("All in release for this processor; they take turns, and of each the least of {ROUNDS} rounds is shown.");
     sections::runs();
     sections::clearing();
     sections::checks();

@@ -1,6 +1,7 @@
 //! What a run does with attributes: updates, binds, arguments and returned values. Called out of line, so that the visits, most of which do nothing of this, keep the
 //! processor's registers to themselves.
 
+use super::drive::Next;
 use super::expressions::{Held, Sight};
 use super::slots::{Mark, Pile};
 use super::table::*;
@@ -9,12 +10,28 @@ use reader_tests::reference::table::FOUR;
 pub struct Attributes<'a> {
     pub sight: Sight<'a>,
     pub pile: Pile<'a>,
+    /// Number and place, once the run has ended.
+    pub ending: (u32, u32),
 }
 
 /// What the run ends by.
 pub type Ends = Option<Held>;
 
 impl Attributes<'_> {
+    #[cold]
+    #[inline(never)]
+    pub fn end(&mut self, number: u32, node: usize) -> Next {
+        self.ending = (number, node as u32);
+        Next::End
+    }
+
+    #[cold]
+    #[inline(never)]
+    pub fn ended_by(&mut self, value: Held) -> Next {
+        self.ending = value.ending();
+        Next::End
+    }
+
     #[inline(never)]
     pub fn value(&self, node: usize) -> Held {
         self.sight.value(self.pile.slots(), node)

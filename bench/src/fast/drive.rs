@@ -21,6 +21,7 @@ pub const FRAMES: usize = MOST_DEPTH as usize;
 pub type Frame = [u32; 4];
 
 const START: u32 = 0;
+const ARM: u16 = 0x8000;
 
 #[derive(Clone, Copy)]
 pub struct Answer {
@@ -32,11 +33,12 @@ pub struct Answer {
 }
 
 /// What comes next.
-enum Next {
+pub enum Next {
     Visit(usize),
     /// A node is through: whether it matched.
     Through(bool),
-    End(u32, u32),
+    /// The run ends, as `Attributes` say.
+    End,
 }
 
 /// What changes at every visit: a few numbers that the compiler can keep in registers, since every function over them is inlined.
@@ -62,6 +64,7 @@ pub fn drive(
     let mut attributes = Attributes {
         sight,
         pile: Pile::new(pairs),
+        ending: (DONE, 0),
     };
     let mut walk = Walk {
         nodes: sight.table.nodes,
@@ -72,7 +75,8 @@ pub fn drive(
         depth: 1,
         at: 0,
     };
-    let (number, place) = walk.ending(&mut attributes);
+    walk.all(&mut attributes);
+    let (number, place) = attributes.ending;
     let mut answer = Answer {
         number,
         place,
@@ -93,30 +97,41 @@ pub fn drive(
 }
 
 impl Walk<'_> {
-    /// Number and place of the answer; DONE before the start rule's returned nodes are evaluated.
+    /// From the start body on, until the run ends.
     #[inline(always)]
-    fn ending(&mut self, attributes: &mut Attributes) -> (u32, u32) {
+    fn all(&mut self, attributes: &mut Attributes) {
         let mut node = number(&attributes.sight.table.rules[0], BODY);
-        loop {
+        'visits: loop {
             let mut matched = match self.visit(attributes, node) {
                 Next::Visit(part) => {
                     node = part;
-                    continue;
+                    continue 'visits;
                 }
                 Next::Through(matched) => matched,
-                Next::End(number, place) => return (number, place),
+                Next::End => return,
             };
-            node = loop {
-                let next = match matched {
-                    true => self.matched(attributes),
-                    false => self.failed(attributes),
-                };
-                match next {
-                    Next::Visit(part) => break part,
-                    Next::Through(through) => matched = through,
-                    Next::End(number, place) => return (number, place),
+            loop {
+                while !matched {
+                    match self.failed(attributes) {
+                        Next::Visit(part) => {
+                            node = part;
+                            continue 'visits;
+                        }
+                        Next::Through(through) => matched = through,
+                        Next::End => return,
+                    }
                 }
-            };
+                while matched {
+                    match self.matched(attributes) {
+                        Next::Visit(part) => {
+                            node = part;
+                            continue 'visits;
+                        }
+                        Next::Through(through) => matched = through,
+                        Next::End => return,
+                    }
+                }
+            }
         }
     }
 
@@ -124,7 +139,7 @@ impl Walk<'_> {
     #[inline(always)]
     fn visit(&mut self, attributes: &mut Attributes, node: usize) -> Next {
         if self.left == 0 {
-            return Next::End(BUDGET, node as u32);
+            return attributes.end(BUDGET, node);
         }
         self.left -= 1;
         let record = &self.nodes[node];
@@ -134,11 +149,11 @@ impl Walk<'_> {
             UPDATE => self.update(attributes, record),
             CONSTRAINT => self.constraint(attributes, node, record),
             CALL => self.call(attributes, node, record),
-            SEQUENCE => self.sequence(record),
+            SEQUENCE => self.sequence(attributes, record),
             CHOICE => self.choice(attributes, record),
             REPEAT => self.repeat(attributes, record),
             NOT => self.not(attributes, record),
-            _ => self.bind(record),
+            _ => self.bind(attributes, record),
         }
     }
 
@@ -154,17 +169,17 @@ impl Walk<'_> {
     }
 
     #[inline(always)]
-    fn sequence(&mut self, record: &Node) -> Next {
+    fn sequence(&mut self, attributes: &mut Attributes, record: &Node) -> Next {
         let [first, second] = [record[1], record[2]].map(usize::from);
         if self.depth == MOST_DEPTH {
-            return self.too_deep(first);
+            return self.too_deep(attributes, first);
         }
         let part = &self.nodes[first];
         if part[0] != TERMINAL {
             return self.open(SEQUENCE, second, first, self.at as u32, 0);
         }
         if self.left == 0 {
-            return Next::End(BUDGET, first as u32);
+            return attributes.end(BUDGET, first);
         }
         self.left -= 1;
         if self.matches(part) {
@@ -179,20 +194,14 @@ impl Walk<'_> {
     fn choice(&mut self, attributes: &mut Attributes, record: &Node) -> Next {
         let [first, second] = [record[1], record[2]].map(usize::from);
         if self.depth == MOST_DEPTH {
-            return self.too_deep(first);
+            return self.too_deep(attributes, first);
         }
         let part = &self.nodes[first];
         if part[0] != TERMINAL {
-            return self.open(
-                CHOICE,
-                second,
-                first,
-                self.at as u32,
-                attributes.pile.open(),
-            );
+            return self.open(ARM, second, first, self.at as u32, attributes.pile.open());
         }
         if self.left == 0 {
-            return Next::End(BUDGET, first as u32);
+            return attributes.end(BUDGET, first);
         }
         self.left -= 1;
         if self.matches(part) {
@@ -207,7 +216,7 @@ impl Walk<'_> {
     fn repeat(&mut self, attributes: &mut Attributes, record: &Node) -> Next {
         let part = number(record, 1);
         if self.depth == MOST_DEPTH {
-            return self.too_deep(part);
+            return self.too_deep(attributes, part);
         }
         self.open(REPEAT, part, part, self.at as u32, attributes.pile.open())
     }
@@ -216,16 +225,16 @@ impl Walk<'_> {
     fn not(&mut self, attributes: &mut Attributes, record: &Node) -> Next {
         let part = number(record, 1);
         if self.depth == MOST_DEPTH {
-            return self.too_deep(part);
+            return self.too_deep(attributes, part);
         }
         self.open(NOT, 0, part, self.at as u32, attributes.pile.open())
     }
 
     #[inline(always)]
-    fn bind(&mut self, record: &Node) -> Next {
+    fn bind(&mut self, attributes: &mut Attributes, record: &Node) -> Next {
         let part = number(record, 2);
         if self.depth == MOST_DEPTH {
-            return self.too_deep(part);
+            return self.too_deep(attributes, part);
         }
         self.open(BIND, number(record, 1), part, self.at as u32, 0)
     }
@@ -245,16 +254,16 @@ impl Walk<'_> {
     }
 
     #[inline(always)]
-    fn too_deep(&self, node: usize) -> Next {
+    fn too_deep(&self, attributes: &mut Attributes, node: usize) -> Next {
         let number = if self.left == 0 { BUDGET } else { DEEP };
-        Next::End(number, node as u32)
+        attributes.end(number, node)
     }
 
     #[inline(always)]
     fn update(&mut self, attributes: &mut Attributes, record: &Node) -> Next {
         match attributes.update(record) {
             None => Next::Through(true),
-            Some(value) => ended_by(value),
+            Some(value) => attributes.ended_by(value),
         }
     }
 
@@ -263,8 +272,8 @@ impl Walk<'_> {
         let value = attributes.value(number(record, 1));
         match value.as_bool() {
             Some(holds) => Next::Through(holds),
-            None if value.ends_the_run() => ended_by(value),
-            None => Next::End(STUCK, node as u32),
+            None if value.ends_the_run() => attributes.ended_by(value),
+            None => attributes.end(STUCK, node),
         }
     }
 
@@ -273,11 +282,11 @@ impl Walk<'_> {
         let callee = &attributes.sight.table.rules[number(record, 1)];
         let (first, mark) = (attributes.pile.first, attributes.pile.mark);
         if let Some(value) = attributes.call(record, callee) {
-            return ended_by(value);
+            return attributes.ended_by(value);
         }
         let body = number(callee, BODY);
         if self.depth == MOST_DEPTH {
-            return self.too_deep(body);
+            return self.too_deep(attributes, body);
         }
         self.open(CALL, node, body, first as u32, mark)
     }
@@ -294,7 +303,7 @@ impl Walk<'_> {
                 self.depth = depth;
                 Next::Visit(needs)
             }
-            CHOICE => {
+            ARM => {
                 self.top -= 1;
                 attributes.pile.hand_on(mark);
                 Next::Through(true)
@@ -313,7 +322,7 @@ impl Walk<'_> {
                 Next::Through(true)
             }
             CALL => self.returned(attributes, needs, from, mark),
-            _ => Next::End(DONE, 0),
+            _ => attributes.end(DONE, 0),
         }
     }
 
@@ -349,7 +358,7 @@ impl Walk<'_> {
         self.top -= 1;
         match attributes.receive(node, first as usize, mark) {
             None => Next::Through(true),
-            Some(value) => ended_by(value),
+            Some(value) => attributes.ended_by(value),
         }
     }
 
@@ -358,13 +367,13 @@ impl Walk<'_> {
     fn failed(&mut self, attributes: &mut Attributes) -> Next {
         let [waits, from, depth, mark] = self.frames[usize::from(self.top)];
         self.top = self.top.wrapping_sub(1);
+        if waits >= 1 << 31 {
+            attributes.pile.give_back(mark);
+            self.at = from as usize;
+            self.depth = depth;
+            return Next::Visit((waits & 0xffff) as usize);
+        }
         match (waits >> 16) as u16 {
-            CHOICE => {
-                attributes.pile.give_back(mark);
-                self.at = from as usize;
-                self.depth = depth;
-                Next::Visit((waits & 0xffff) as usize)
-            }
             REPEAT | NOT => {
                 attributes.pile.give_back(mark);
                 self.at = from as usize;
@@ -375,12 +384,7 @@ impl Walk<'_> {
                 Next::Through(false)
             }
             SEQUENCE | BIND => Next::Through(false),
-            _ => Next::End(NOMATCH, 0),
+            _ => attributes.end(NOMATCH, 0),
         }
     }
-}
-
-fn ended_by(value: Held) -> Next {
-    let (number, place) = value.ending();
-    Next::End(number, place)
 }
