@@ -2,6 +2,7 @@
 
 use crate::contenders::INDEPENDENT;
 use crate::fast::Fast;
+use crate::grammars::measured_runs;
 use reader_tests::compare::coverage::Coverage;
 use reader_tests::compare::one::compare_case;
 use reader_tests::compare::shrink::{shown, shrink, smaller_case};
@@ -9,6 +10,7 @@ use reader_tests::compare::{compare_kinds, whole};
 use reader_tests::exported::WORK_WORDS;
 use reader_tests::random::cases::{run_case, Case};
 use reader_tests::random::prng::Random;
+use reader_tests::subject::Subject;
 use reader_tests::vectors::judged;
 
 /// Case file and stored file; listings are not the fast contender's.
@@ -38,7 +40,28 @@ pub fn all(cases: u64, first_seed: u64) -> Result<(), String> {
     }
     let count = compare_kinds(&INDEPENDENT, &Fast, 0..=u16::MAX)?;
     println!("{count} words as kinds: the same");
+    long_runs()?;
     random_cases(cases, first_seed)
+}
+
+/// What is measured: messages and repeats that are longer than random ones.
+fn long_runs() -> Result<(), String> {
+    for (name, work) in measured_runs() {
+        for budget in [0, 1, 1_000, 60_000, u32::MAX] {
+            let records = [&INDEPENDENT as &dyn Subject, &Fast].map(|subject| {
+                let mut area = vec![budget; WORK_WORDS + 1];
+                let (words, literals) = (&work.words, &work.literals);
+                let record = subject.run(true, words, literals, &work.message, budget, &mut area);
+                (record, area)
+            });
+            if records[0] != records[1] {
+                let [(left, _), (right, _)] = records;
+                return Err(format!("{name}, budget {budget}: {left:?} and {right:?}"));
+            }
+        }
+        println!("{name}: the same");
+    }
+    Ok(())
 }
 
 fn random_cases(cases: u64, first_seed: u64) -> Result<(), String> {

@@ -79,11 +79,15 @@ pub struct Sight<'a> {
 pub type Slots = [[u32; 2]; SLOTS];
 
 impl Sight<'_> {
-    /// Leaves are most of the nodes of an expression: they are looked at without a call.
+    /// Leaves are most of the nodes of an expression: they are evaluated without a call.
     #[inline(always)]
     pub fn value(&self, slots: &Slots, node: usize) -> Held {
         let record = &self.table.nodes[node];
         match record[0] {
+            INTEGER => Held {
+                tag: OF_INTEGER,
+                payload: two_words(record),
+            },
             SLOT => {
                 let [tag, payload] = slots[number(record, 1) % SLOTS];
                 match tag {
@@ -91,60 +95,54 @@ impl Sight<'_> {
                     _ => Held { tag, payload },
                 }
             }
-            INTEGER => Held {
-                tag: OF_INTEGER,
+            TEXT => Held {
+                tag: OF_LITERALS,
                 payload: two_words(record),
             },
-            _ => self.inner_value(slots, node, record),
+            BOOL => Held::bool(record[1] == 1),
+            _ => self.operator(slots, node, record),
         }
     }
 
-    fn inner_value(&self, slots: &Slots, node: usize, record: &Node) -> Held {
+    fn operator(&self, slots: &Slots, node: usize, record: &Node) -> Held {
         let kind = record[0];
-        match kind {
-            BOOL => return Held::bool(record[1] == 1),
-            TEXT => {
-                return Held {
-                    tag: OF_LITERALS,
-                    payload: two_words(record),
-                }
-            }
-            _ => {}
-        }
         let left = self.value(slots, number(record, 1));
         if left.ends_the_run() {
             return left;
         }
         if kind >= AND {
-            let Some(holds) = left.as_bool() else {
-                return Held::stuck(node);
-            };
-            if kind == LOGIC_NOT {
-                return Held::bool(!holds);
-            }
-            if holds == (kind == OR) {
-                return left;
-            }
+            return self.logic(slots, node, record, left);
         }
         let right = self.value(slots, number(record, 2));
         if right.ends_the_run() {
             return right;
         }
-        self.of_both(kind, node, left, right)
+        if left.tag == OF_INTEGER && right.tag == OF_INTEGER {
+            return of_integers(kind, node, left.payload as i32, right.payload as i32);
+        }
+        match self.equal(left, right) {
+            Some(same) if kind == EQUAL => Held::bool(same),
+            _ => Held::stuck(node),
+        }
     }
 
+    /// And, or, not: "if it decides the right stays unevaluated".
     #[inline(always)]
-    fn of_both(&self, kind: u16, node: usize, left: Held, right: Held) -> Held {
-        let comes_to = match kind {
-            AND | OR => right.as_bool(),
-            EQUAL => self.equal(left, right),
-            _ if left.tag != OF_INTEGER || right.tag != OF_INTEGER => None,
-            GREATER => Some(left.payload as i32 > right.payload as i32),
-            _ => return arithmetic(kind, node, left.payload as i32, right.payload as i32),
+    fn logic(&self, slots: &Slots, node: usize, record: &Node, left: Held) -> Held {
+        let Some(holds) = left.as_bool() else {
+            return Held::stuck(node);
         };
-        match comes_to {
-            Some(holds) => Held::bool(holds),
-            None => Held::stuck(node),
+        if record[0] == LOGIC_NOT {
+            return Held::bool(!holds);
+        }
+        if holds == (record[0] == OR) {
+            return left;
+        }
+        let right = self.value(slots, number(record, 2));
+        if right.ends_the_run() || right.tag == OF_BOOL {
+            right
+        } else {
+            Held::stuck(node)
         }
     }
 
@@ -172,12 +170,14 @@ fn two_words(record: &Node) -> u32 {
 }
 
 #[inline(always)]
-fn arithmetic(kind: u16, node: usize, left: i32, right: i32) -> Held {
+fn of_integers(kind: u16, node: usize, left: i32, right: i32) -> Held {
     let result = match kind {
         ADD => left.checked_add(right),
         SUBTRACT => left.checked_sub(right),
         MULTIPLY => left.checked_mul(right),
-        _ => left.checked_div(right),
+        DIVIDE => left.checked_div(right),
+        EQUAL => return Held::bool(left == right),
+        _ => return Held::bool(left > right),
     };
     match result {
         Some(integer) => Held {

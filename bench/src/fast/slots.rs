@@ -52,7 +52,7 @@ impl<'a> Pile<'a> {
         for (slot, held) in slots.iter_mut().zip(inherited) {
             *slot = [held.tag, held.payload];
         }
-        self.mark = (self.first + SLOTS) as u32 * A_PAIR | ALL_KEPT;
+        self.mark = ((self.first + SLOTS) as u32 * A_PAIR) | ALL_KEPT;
     }
 
     /// The slots of a caller, as they were at the call.
