@@ -1,8 +1,9 @@
 //! The fast contender beside the independent implementation: a time is worth nothing if the answer is another.
 
 use crate::contenders::INDEPENDENT;
+use crate::entangled;
 use crate::fast::Fast;
-use crate::grammars::measured_runs;
+use crate::grammars::{measured_runs, Work};
 use reader_tests::compare::coverage::Coverage;
 use reader_tests::compare::one::compare_case;
 use reader_tests::compare::shrink::{shown, shrink, smaller_case};
@@ -41,12 +42,15 @@ pub fn all(cases: u64, first_seed: u64) -> Result<(), String> {
     let count = compare_kinds(&INDEPENDENT, &Fast, 0..=u16::MAX)?;
     println!("{count} words as kinds: the same");
     long_runs()?;
+    entangled_cases(cases, first_seed)?;
     random_cases(cases, first_seed)
 }
 
-/// What is measured: messages and repeats that are longer than random ones.
+/// What is measured, and a slot that is written again and again: messages and repeats that are longer than random ones.
 fn long_runs() -> Result<(), String> {
-    for (name, work) in measured_runs() {
+    let mut works = Vec::from(measured_runs());
+    works.push(("counted in vain", in_vain()));
+    for (name, work) in works {
         for budget in [0, 1, 1_000, 60_000, u32::MAX] {
             let records = [&INDEPENDENT as &dyn Subject, &Fast].map(|subject| {
                 let mut area = vec![budget; WORK_WORDS + 1];
@@ -60,6 +64,30 @@ fn long_runs() -> Result<(), String> {
             }
         }
         println!("{name}: the same");
+    }
+    Ok(())
+}
+
+fn in_vain() -> Work {
+    let draft = entangled::counted_in_vain();
+    Work {
+        words: draft.words(),
+        literals: Vec::new(),
+        message: Vec::new(),
+    }
+}
+
+fn entangled_cases(cases: u64, first_seed: u64) -> Result<(), String> {
+    let mut coverage = Coverage::default();
+    for seed in first_seed..first_seed + cases {
+        let case = Case::Run(entangled::case(&mut Random::new(seed), WORK_WORDS));
+        compare_case(&INDEPENDENT, &Fast, &case, &mut coverage)
+            .map_err(|told| difference(seed, case, told))?;
+    }
+    println!("{cases} cases that write and fail a lot, from seed {first_seed} on: the same");
+    let runs = coverage.counts().into_iter();
+    for (name, count) in runs.filter(|(name, count)| name.starts_with("bench run:") && *count > 0) {
+        println!("{name}: {count}");
     }
     Ok(())
 }

@@ -2,6 +2,7 @@
 
 pub mod agreement;
 pub mod contenders;
+pub mod entangled;
 pub mod fast;
 pub mod grammars;
 pub mod lpeg;
