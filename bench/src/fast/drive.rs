@@ -20,8 +20,14 @@ pub const FRAMES: usize = MOST_DEPTH as usize;
 /// What waits (upper half of the first word) and the node or slot it needs then (lower half); the place, or a caller's first slot; the part's depth; the mark.
 pub type Frame = [u32; 4];
 
-const START: u32 = 0;
-const ARM: u16 = 0x8000;
+/// What waits is told by the kind of its node, but for these: the start, and a choice for its first part, which has the highest bit so that a failure, which mostly meets
+/// a choice, finds it by one look.
+const START: u16 = 0;
+const FIRST_ARM: u16 = 0x8000;
+
+fn waits_for_first_arm(waits: u32) -> bool {
+    waits >= u32::from(FIRST_ARM) << 16
+}
 
 #[derive(Clone, Copy)]
 pub struct Answer {
@@ -60,7 +66,7 @@ pub fn drive(
     frames: &mut [Frame; FRAMES],
     pairs: &mut [[u32; 2]; PAIRS],
 ) -> Answer {
-    frames[0] = [START << 16, 0, 0, 0];
+    frames[0] = [u32::from(START) << 16, 0, 0, 0];
     let mut attributes = Attributes {
         sight,
         pile: Pile::new(pairs),
@@ -168,6 +174,7 @@ impl Walk<'_> {
         }
     }
 
+    /// A first part that is a terminal is visited here: after it, only the second part is left to do.
     #[inline(always)]
     fn sequence(&mut self, attributes: &mut Attributes, record: &Node) -> Next {
         let [first, second] = [record[1], record[2]].map(usize::from);
@@ -190,6 +197,7 @@ impl Walk<'_> {
         }
     }
 
+    /// As a sequence: a terminal writes no slots, so there is nothing to give back before the second part.
     #[inline(always)]
     fn choice(&mut self, attributes: &mut Attributes, record: &Node) -> Next {
         let [first, second] = [record[1], record[2]].map(usize::from);
@@ -198,7 +206,13 @@ impl Walk<'_> {
         }
         let part = &self.nodes[first];
         if part[0] != TERMINAL {
-            return self.open(ARM, second, first, self.at as u32, attributes.pile.open());
+            return self.open(
+                FIRST_ARM,
+                second,
+                first,
+                self.at as u32,
+                attributes.pile.open(),
+            );
         }
         if self.left == 0 {
             return attributes.end(BUDGET, first);
@@ -253,6 +267,7 @@ impl Walk<'_> {
         Next::Visit(part)
     }
 
+    /// "the budget (32-bit unsigned) is looked at first, then depth"
     #[inline(always)]
     fn too_deep(&self, attributes: &mut Attributes, node: usize) -> Next {
         let number = if self.left == 0 { BUDGET } else { DEEP };
@@ -303,7 +318,7 @@ impl Walk<'_> {
                 self.depth = depth;
                 Next::Visit(needs)
             }
-            ARM => {
+            FIRST_ARM => {
                 self.top -= 1;
                 attributes.pile.hand_on(mark);
                 Next::Through(true)
@@ -366,8 +381,9 @@ impl Walk<'_> {
     #[inline(always)]
     fn failed(&mut self, attributes: &mut Attributes) -> Next {
         let [waits, from, depth, mark] = self.frames[usize::from(self.top)];
+        // the start's frame is the last to fail
         self.top = self.top.wrapping_sub(1);
-        if waits >= 1 << 31 {
+        if waits_for_first_arm(waits) {
             attributes.pile.give_back(mark);
             self.at = from as usize;
             self.depth = depth;

@@ -1,8 +1,8 @@
 //! The slots of the rules that are being run, and the values they held before: one pile of pairs in the work area.
 //!
 //! A call puts sixteen fresh slots on the pile. A write keeps what the slot held, on top of the pile, if a failure can bring it back: if a choice, repeat or not is open
-//! that began in this rule, and the slot wasn't written since the latest of these began. So each of them keeps at most sixteen pairs, as a call has sixteen slots, and the
-//! 255 nodes that can be open at once need no more than `PAIRS` with the start rule.
+//! that began in this rule, and the slot wasn't written since the latest of these began. So each of them keeps at most sixteen pairs, as a call has sixteen slots. With the
+//! start rule's slots, those of 255 nodes that wait for a part, and those of a call whose body is then found to be too deep, `PAIRS` is enough.
 
 use super::expressions::{Held, Slots};
 use reader_tests::reference::table::SLOTS;
