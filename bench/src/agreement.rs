@@ -10,7 +10,9 @@ use reader_tests::compare::shrink::{shown, shrink, smaller_case};
 use reader_tests::compare::{compare_kinds, whole};
 use reader_tests::exported::WORK_WORDS;
 use reader_tests::random::cases::{run_case, Case};
+use reader_tests::random::draft::Draft;
 use reader_tests::random::prng::Random;
+use reader_tests::reference::table::{CHOICE, SEQUENCE};
 use reader_tests::subject::Subject;
 use reader_tests::vectors::judged;
 
@@ -42,6 +44,7 @@ pub fn all(cases: u64, first_seed: u64) -> Result<(), String> {
     let count = compare_kinds(&INDEPENDENT, &Fast, 0..=u16::MAX)?;
     println!("{count} words as kinds: the same");
     long_runs()?;
+    chains()?;
     entangled_cases(cases, first_seed)?;
     random_cases(cases, first_seed)
 }
@@ -49,32 +52,53 @@ pub fn all(cases: u64, first_seed: u64) -> Result<(), String> {
 /// What is measured, and a slot that is written again and again: messages and repeats that are longer than random ones.
 fn long_runs() -> Result<(), String> {
     let mut works = Vec::from(measured_runs());
-    works.push(("counted in vain", in_vain()));
+    works.push((
+        "counted in vain",
+        of_draft(entangled::counted_in_vain(), b""),
+    ));
     for (name, work) in works {
         for budget in [0, 1, 1_000, 60_000, u32::MAX] {
-            let records = [&INDEPENDENT as &dyn Subject, &Fast].map(|subject| {
-                let mut area = vec![budget; WORK_WORDS + 1];
-                let (words, literals) = (&work.words, &work.literals);
-                let record = subject.run(true, words, literals, &work.message, budget, &mut area);
-                (record, area)
-            });
-            if records[0] != records[1] {
-                let [(left, _), (right, _)] = records;
-                return Err(format!("{name}, budget {budget}: {left:?} and {right:?}"));
-            }
+            same_run(&work, budget).map_err(|told| format!("{name}: {told}"))?;
         }
         println!("{name}: the same");
     }
     Ok(())
 }
 
-fn in_vain() -> Work {
-    let draft = entangled::counted_in_vain();
+/// Every budget, at and over the greatest depth.
+fn chains() -> Result<(), String> {
+    for kind in [SEQUENCE, CHOICE] {
+        for (length, byte) in (253..=257).flat_map(|length| [(length, b'a'), (length, b'b')]) {
+            let work = of_draft(entangled::chain(kind, length), &[byte; 300]);
+            for budget in 0..=520 {
+                same_run(&work, budget).map_err(|told| format!("{length} of {kind}: {told}"))?;
+            }
+        }
+    }
+    println!("chains of 253 to 257, budgets 0 to 520: the same");
+    Ok(())
+}
+
+fn of_draft(draft: Draft, message: &[u8]) -> Work {
     Work {
         words: draft.words(),
-        literals: Vec::new(),
-        message: Vec::new(),
+        literals: draft.literals,
+        message: message.to_vec(),
     }
+}
+
+fn same_run(work: &Work, budget: u32) -> Result<(), String> {
+    let both = [&INDEPENDENT as &dyn Subject, &Fast].map(|subject| {
+        let mut area = vec![budget; WORK_WORDS + 1];
+        let (words, literals) = (&work.words, &work.literals);
+        let record = subject.run(true, words, literals, &work.message, budget, &mut area);
+        (record, area)
+    });
+    if both[0] == both[1] {
+        return Ok(());
+    }
+    let [(left, _), (right, _)] = both;
+    Err(format!("budget {budget}: {left:?} and {right:?}"))
 }
 
 fn entangled_cases(cases: u64, first_seed: u64) -> Result<(), String> {

@@ -26,12 +26,13 @@ pub fn case(random: &mut Random, work_words: usize) -> RunCase {
         draft.rule(body, inherited, &returned);
     }
     let length = random.below(12);
+    let few = random.below(200) as u32;
     RunCase {
         display: false,
         words: draft.words(),
         literals: Vec::new(),
         message: (0..length).map(|_| random.pick(b"ab")).collect(),
-        budget: AFFORDABLE,
+        budget: random.pick(&[AFFORDABLE, few]),
         work: vec![u32::MAX; work_words],
     }
 }
@@ -97,6 +98,18 @@ fn leaf(random: &mut Random, draft: &mut Draft) -> u16 {
             )
         }
     }
+}
+
+/// 'a' ('a' ('a' ..)) of this many sequences, or as many choices: at the greatest depth, and one more.
+pub fn chain(kind: u16, length: usize) -> Draft {
+    let mut draft = Draft::default();
+    let mut body = draft.node(TERMINAL, &[b'a' as u16]);
+    for _ in 0..length {
+        let first = draft.node(TERMINAL, &[b'a' as u16]);
+        body = draft.node(kind, &[first, body]);
+    }
+    draft.rule(body, &[], &[]);
+    draft
 }
 
 /// x←0, ((?(10,000>x) x←x+1)* 'z' / empty): an arm that writes a slot more often than the work area has words, and fails. Returns x, which is 0.

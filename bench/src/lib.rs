@@ -1,5 +1,7 @@
 //! Styrmflo: what the benchmark runs, and how it takes times.
 
+#![forbid(unsafe_code)]
+
 pub mod agreement;
 pub mod contenders;
 pub mod entangled;
