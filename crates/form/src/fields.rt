@@ -104,7 +104,8 @@ fn record_bound(rules: u16, nodes: u16, q: u16) -> u16
     if q < rules { nodes } else { q - rules }
 }
 
-// The first bad word, in word order; the number of words where there is none. Then the counts, all 0 at first, are those of the uses.
+// "The scan for FIELD stops inside a record at its first bad word": the first bad word, in word order; the number of words where there is none. Then the
+// counts, all 0 at first, are those of the uses.
 pub(crate) fn first_bad(words: &[u16], counts: &mut [u16; 1024]) -> usize
     requires { ⌜ Sized (now words) ⌝ }
     requires { ⌜ now counts ≡ replicate 1024 0 ⌝ }

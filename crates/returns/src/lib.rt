@@ -2,9 +2,9 @@
 ghost use mathlib.Core.Path.{_≡_};
 ghost use Rattle.grammar.specs.Words.{nodeAt};
 ghost use Rattle.grammar.specs.Run.{messagePart};
-ghost use Rattle.frames.specs.Frames.{phaseIn, fromIn, written};
+ghost use Rattle.frames.specs.Frames.{phaseIn, fromIn, saved, restored, written};
 ghost use Rattle.stages.specs.declared.Stage.the-variants as S;
-ghost use Rattle.stages.specs.Stages.{with, moved};
+ghost use Rattle.stages.specs.Stages.{with, moved, staged};
 ghost use Rattle.returns.specs.Returns.{sequenceMatched, choiceFailed, givenBack, returned, returnedAt, matchedIn, failedIn, backMatched, backFailed};
 use calls::Given;
 use calls::receive;
@@ -30,6 +30,23 @@ fn sequence_matched(b: u16, d: u16, run: Run, work: &mut [u32]) -> Run
         return stay(run, Stage::Enter(b));
     }
     move_to(run, Stage::Matched, run.at, d)
+}
+
+// A repeat's part matched: "A round may consume nothing".
+fn next_round(a: u16, d: u16, run: Run, work: &mut [u32]) -> Run
+    ensures { λ r. ⌜ with r (now (work .exit)) ≡ with (staged run (S.Enter a)) (saved (now (work .entry)) d (run .at)) ⌝ }
+{
+    frames::save(work, d, run.at);
+    stay(run, Stage::Enter(a))
+}
+
+// A repeat's part failed: it "then stands as after the last full round".
+fn repeat_failed(d: u16, run: Run, work: &mut [u32]) -> Run
+    ensures { λ r. ⌜ with r (now (work .exit)) ≡ with (moved run S.Matched (fromIn (now (work .entry)) d) d) (restored (now (work .entry)) d) ⌝ }
+{
+    let from = frames::from_in(work, d);
+    frames::restore(work, d);
+    move_to(run, Stage::Matched, from, d)
 }
 
 // "both arms start from the place and slots the choice began with."
@@ -148,11 +165,7 @@ fn matched_in<'a>(
     let place = node_place(words, k);
     match kind_in(words, place) {
         3 => sequence_matched(field_in(words, place, 2), d, run, work),
-        // "A round may consume nothing"
-        5 => {
-            frames::save(work, d, run.at);
-            stay(run, Stage::Enter(field_in(words, place, 1)))
-        }
+        5 => next_round(field_in(words, place, 1), d, run, work),
         // "not hands on the slots its part left, matched or failed"
         6 => move_to(run, Stage::Failed, run.at, d),
         7 => return_call(words, literals, message, place, d, run, work),
@@ -168,12 +181,7 @@ fn failed_in(words: &[u16], k: u16, d: u16, run: Run, work: &mut [u32]) -> Run
     let place = node_place(words, k);
     match kind_in(words, place) {
         4 => choice_failed(field_in(words, place, 2), d, run, work),
-        // "then stands as after the last full round"
-        5 => {
-            let from = frames::from_in(work, d);
-            frames::restore(work, d);
-            move_to(run, Stage::Matched, from, d)
-        }
+        5 => repeat_failed(d, run, work),
         // "Not consumes nothing"
         6 => move_to(run, Stage::Matched, frames::from_in(work, d), d),
         _ => give_back(d, run, work),

@@ -18,20 +18,14 @@ field-in-requires c κs = search needs
 choice-failed-requires : tie.Need-choice-failed-requires
 choice-failed-requires c κs = search needs
 
+repeat-failed-requires : tie.Need-repeat-failed-requires
+repeat-failed-requires c κs = search needs
+
 from-in-requires : tie.Need-from-in-requires
 from-in-requires c κs = search needs
 
-restore-requires : tie.Need-restore-requires
-restore-requires c κs = search needs
-
 move-to-requires : tie.Need-move-to-requires
 move-to-requires c κs = search needs
-
-from-in-requires-2 : tie.Need-from-in-requires-2
-from-in-requires-2 c κs = search needs
-
-move-to-requires-2 : tie.Need-move-to-requires-2
-move-to-requires-2 c κs = search needs
 
 give-back-requires : tie.Need-give-back-requires
 give-back-requires c κs = search needs
@@ -46,7 +40,7 @@ same-length-2 : tie.Need-same-length-2
 same-length-2 c = search needs
 
 returns-2 : tie.Need-returns-2
-returns-2 c = let a = c .before .before .before .before .before .before .before .before .before .before .before .before .args in let kind = kind-read (now (a .words)) (a .k) (c .before .before .before .before .before .before .before .before .before .node-place .ensures) (c .before .before .before .before .before .before .before .before .kind-in .ensures) in cc (failed-repeat (now (a .words)) (a .k) (a .d) (a .run) (now (a .work)) (kind ∙ c .before .before .before .before .before .before .before .match .keys2))
+returns-2 c = let a = c .before .before .before .before .before .before .before .before .before .args in let kind = kind-read (now (a .words)) (a .k) (c .before .before .before .before .before .before .node-place .ensures) (c .before .before .before .before .before .kind-in .ensures) in cc (failed-repeat (now (a .words)) (a .k) (a .d) (a .run) (now (a .work)) (kind ∙ c .before .before .before .before .match .keys2))
 
 same-length-3 : tie.Need-same-length-3
 same-length-3 c = search needs
@@ -68,11 +62,9 @@ failed-in-spec =
     kind-in-requires
     field-in-requires
     choice-failed-requires
+    repeat-failed-requires
     from-in-requires
-    restore-requires
     move-to-requires
-    from-in-requires-2
-    move-to-requires-2
     give-back-requires
     same-length
     returns

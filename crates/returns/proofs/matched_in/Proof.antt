@@ -18,14 +18,11 @@ field-in-requires c κs = search needs
 sequence-matched-requires : tie.Need-sequence-matched-requires
 sequence-matched-requires c κs = search needs
 
-save-requires : tie.Need-save-requires
-save-requires c κs = search needs
-
 field-in-requires-2 : tie.Need-field-in-requires-2
 field-in-requires-2 c κs = search needs
 
-stay-requires : tie.Need-stay-requires
-stay-requires c κs = search needs
+next-round-requires : tie.Need-next-round-requires
+next-round-requires c κs = search needs
 
 move-to-requires : tie.Need-move-to-requires
 move-to-requires c κs = search needs
@@ -52,7 +49,7 @@ same-length-2 : tie.Need-same-length-2
 same-length-2 c = search needs
 
 returns-2 : tie.Need-returns-2
-returns-2 c = let a = c .before .before .before .before .before .before .before .before .before .before .before .before .before .args in let kind = kind-read (now (a .words)) (a .k) (c .before .before .before .before .before .before .before .before .node-place .ensures) (c .before .before .before .before .before .before .before .kind-in .ensures) in cc (matched-repeat (now (a .words)) (now (a .literals)) (now (a .message)) (a .k) (a .d) (a .run) (now (a .work)) (kind ∙ c .before .before .before .before .before .before .match .keys2))
+returns-2 c = let a = c .before .before .before .before .before .before .before .before .before .before .before .before .args in let kind = kind-read (now (a .words)) (a .k) (c .before .before .before .before .before .before .before .node-place .ensures) (c .before .before .before .before .before .before .kind-in .ensures) in cc (matched-repeat (now (a .words)) (now (a .literals)) (now (a .message)) (a .k) (a .d) (a .run) (now (a .work)) (kind ∙ c .before .before .before .before .before .match .keys2))
 
 returns-3 : tie.Need-returns-3
 returns-3 c = let a = c .before .before .before .before .before .before .before .before .args in let kind = kind-read (now (a .words)) (a .k) (c .before .before .before .node-place .ensures) (c .before .before .kind-in .ensures) in cc (matched-not (now (a .words)) (now (a .literals)) (now (a .message)) (a .k) (a .d) (a .run) (now (a .work)) (kind ∙ c .before .match .keys3))
@@ -80,9 +77,8 @@ matched-in-spec =
     kind-in-requires
     field-in-requires
     sequence-matched-requires
-    save-requires
     field-in-requires-2
-    stay-requires
+    next-round-requires
     move-to-requires
     return-call-requires
     field-in-requires-3
