@@ -1,4 +1,5 @@
-//! The fast contender beside the independent implementation: a time is worth nothing if the answer is another.
+//! The fast contender and the proved reader beside the independent implementation: a time is worth nothing if the answer is another. What tests/ compares already
+//! (vectors, kinds, random cases) is asked of the fast contender alone.
 
 use crate::contenders::INDEPENDENT;
 use crate::entangled;
@@ -9,6 +10,7 @@ use reader_tests::compare::one::compare_case;
 use reader_tests::compare::shrink::{shown, shrink, smaller_case};
 use reader_tests::compare::{compare_kinds, whole};
 use reader_tests::exported::WORK_WORDS;
+use reader_tests::library::Library;
 use reader_tests::random::cases::{run_case, Case};
 use reader_tests::random::draft::Draft;
 use reader_tests::random::prng::Random;
@@ -88,23 +90,28 @@ fn of_draft(draft: Draft, message: &[u8]) -> Work {
 }
 
 fn same_run(work: &Work, budget: u32) -> Result<(), String> {
-    let both = [&INDEPENDENT as &dyn Subject, &Fast].map(|subject| {
-        let mut area = vec![budget; WORK_WORDS + 1];
-        let (words, literals) = (&work.words, &work.literals);
-        let record = subject.run(true, words, literals, &work.message, budget, &mut area);
-        (record, area)
-    });
-    if both[0] == both[1] {
+    let [independent, proved, fast] =
+        [&INDEPENDENT as &dyn Subject, &Library, &Fast].map(|subject| {
+            let mut area = vec![budget; WORK_WORDS + 1];
+            let (words, literals) = (&work.words, &work.literals);
+            let record = subject.run(true, words, literals, &work.message, budget, &mut area);
+            (record, area)
+        });
+    if proved == independent && fast == independent {
         return Ok(());
     }
-    let [(left, _), (right, _)] = both;
-    Err(format!("budget {budget}: {left:?} and {right:?}"))
+    let records = [independent.0, proved.0, fast.0];
+    Err(format!(
+        "budget {budget}, independent, proved and fast: {records:?}"
+    ))
 }
 
 fn entangled_cases(cases: u64, first_seed: u64) -> Result<(), String> {
     let mut coverage = Coverage::default();
     for seed in first_seed..first_seed + cases {
         let case = Case::Run(entangled::case(&mut Random::new(seed), WORK_WORDS));
+        compare_case(&INDEPENDENT, &Library, &case, &mut Coverage::default())
+            .map_err(|told| format!("seed {seed}, the proved reader: {told}"))?;
         compare_case(&INDEPENDENT, &Fast, &case, &mut coverage)
             .map_err(|told| difference(seed, case, told))?;
     }

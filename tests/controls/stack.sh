@@ -171,6 +171,14 @@ module "$turn" "$(turning @inner)"
 figures
 passes 'stack, a jump table, and at the end the call of a function' tests/stack.sh "$folder"
 
+# The reader has more jumps than tables, since the compiler puts a jump behind each way that leads to it; each is seen to read a table. Where it isn't, it may be a call.
+mkdir "$room/reader"
+cp target/stack/x86_64.{s,su,o} docs/styrmflo.h tests/stack/cycles "$room/reader"
+reader=(tests/target/own/release/stack_bound x86_64 "$room/reader" "$room/reader/styrmflo.h" "$room/reader/cycles" memset=256)
+passes 'stack, more jumps than tables' "${reader[@]}"
+change "$room/reader/x86_64.s" 's/movslq/movzlq/'
+fails 'stack, more jumps than tables, and a distance read in another way' "calls what isn't named: jumps through a register" "${reader[@]}"
+
 # A library that isn't the one that is looked at.
 fails 'stack, another library' 'not what is looked at here' env READER_LIBRARY=/dev/null tests/stack.sh
 

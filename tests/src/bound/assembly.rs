@@ -29,7 +29,10 @@ pub fn functions(processor: &Processor, text: &str, wrong: &mut Vec<String>) -> 
     let codes = codes(processor, text);
     codes
         .iter()
-        .map(|code| followed(code, tables.get(&code.number).unwrap_or(&none), wrong))
+        .map(|code| {
+            let tables = tables.get(&code.number).unwrap_or(&none);
+            followed(processor, code, tables, wrong)
+        })
         .collect()
 }
 

@@ -80,6 +80,8 @@ pub struct Processor {
     pub comment: &'static str,
     /// Of an instruction, its operands, and the comment behind them.
     pub effect: fn(&str, &[&str], &str) -> Effect,
+    /// Whether a jump through a register goes where a table leads, as the instructions tell that come before it and after the last label.
+    pub reads_table: fn(&[&str], &str) -> bool,
 }
 
 pub fn named(name: &str) -> Option<Processor> {
@@ -88,12 +90,15 @@ pub fn named(name: &str) -> Option<Processor> {
             return_address: 8,
             comment: "#",
             effect: x86_64::effect,
+            reads_table: x86_64::reads_table,
         }),
         // the return address comes in a register, and is stored in the frame
         "aarch64" => Some(Processor {
             return_address: 0,
             comment: "//",
             effect: aarch64::effect,
+            // not read here: there the compiler has made one jump to a table
+            reads_table: |_, _| false,
         }),
         _ => None,
     }

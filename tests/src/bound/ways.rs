@@ -3,7 +3,7 @@
 //! where it returns as it began.
 
 use super::assembly::{Code, Tables};
-use super::processors::{begins, Effect, Flow, INDIRECT};
+use super::processors::{begins, Effect, Flow, Processor, INDIRECT};
 use std::collections::BTreeSet;
 
 #[derive(Default)]
@@ -17,6 +17,7 @@ pub struct Function {
 }
 
 struct Ways<'a> {
+    processor: &'a Processor,
     code: &'a Code,
     tables: &'a Tables,
     /// Before each instruction that was come to: how deep the stack is.
@@ -27,8 +28,14 @@ struct Ways<'a> {
     told: Vec<String>,
 }
 
-pub fn followed(code: &Code, tables: &Tables, wrong: &mut Vec<String>) -> Function {
+pub fn followed(
+    processor: &Processor,
+    code: &Code,
+    tables: &Tables,
+    wrong: &mut Vec<String>,
+) -> Function {
     let mut ways = Ways {
+        processor,
         code,
         tables,
         before: vec![None; code.lines.len()],
@@ -123,15 +130,30 @@ impl Ways<'_> {
 
     /// A jump through a register may be one by a table or the call of a pointer as
     /// the last thing that is done. A table has one jump at least: where there are
-    /// more jumps than tables, one of them may be such a call.
+    /// more jumps than tables, one of them may be such a call, unless each is seen
+    /// to read a table.
     fn see_that_jumps_have_tables(&mut self) {
-        let flows = self.code.lines.iter().map(|(_, effect)| &effect.flow);
-        let jumps = flows.filter(|flow| **flow == Flow::Table).count();
-        let tables = self.tables.count;
-        if jumps > tables {
+        let lines = self.code.lines.iter().enumerate();
+        let jumps: Vec<usize> = lines
+            .filter(|(_, (_, effect))| effect.flow == Flow::Table)
+            .map(|(at, _)| at)
+            .collect();
+        let (count, tables) = (jumps.len(), self.tables.count);
+        if count > tables && !jumps.into_iter().all(|at| self.reads_table(at)) {
             self.tell(format!(
-                "{INDIRECT}: jumps through a register {jumps}, jump tables {tables}"
+                "{INDIRECT}: jumps through a register {count}, jump tables {tables}"
             ));
+        }
+    }
+
+    fn reads_table(&self, at: usize) -> bool {
+        let labels = self.code.labels.values();
+        let from = labels.filter(|&&place| place <= at).max().unwrap_or(&0);
+        let lines = self.code.lines[*from..=at].iter();
+        let texts: Vec<&str> = lines.map(|(text, _)| text.as_str()).collect();
+        match texts.split_last() {
+            Some((jump, before)) => (self.processor.reads_table)(before, jump),
+            None => false,
         }
     }
 }

@@ -97,3 +97,42 @@ fn below(operands: &[&str]) -> usize {
         .max()
         .unwrap_or(0)
 }
+
+/// `movslq (%r12,%rax,4), %rcx` and `addq %r12, %rcx`, a distance from a table and the table's place, then nothing that names this register until `jmpq *%rcx`.
+pub fn reads_table(before: &[&str], jump: &str) -> bool {
+    let Some(target) = jump.strip_prefix("jmpq *") else {
+        return false;
+    };
+    let names = names_of(target);
+    let named = |line: &&str| names.iter().any(|name| line.contains(name.as_str()));
+    let Some(at) = before.iter().rposition(named) else {
+        return false;
+    };
+    let [.., load, add] = before[..=at] else {
+        return false;
+    };
+    let table = add
+        .strip_prefix("addq ")
+        .and_then(|rest| rest.strip_suffix(&format!(", {target}")));
+    table.is_some_and(|table| {
+        load.starts_with(&format!("movslq ({table},%"))
+            && load.ends_with(&format!(",4), {target}"))
+            && table != target
+    })
+}
+
+/// What a register is called, whole or in part: `%rcx` is `%ecx`, `%cx`, `%cl` and `%ch` too, and `%r12` the beginning of all of its names.
+fn names_of(register: &str) -> Vec<String> {
+    let Some(letters) = register.strip_prefix("%r") else {
+        return vec!["%".to_string()];
+    };
+    if letters.starts_with(|c: char| c.is_ascii_digit()) {
+        return vec![register.to_string()];
+    }
+    let short = letters.trim_end_matches('x');
+    ["%r", "%e", "%"]
+        .map(|start| format!("{start}{letters}"))
+        .into_iter()
+        .chain(["l", "h"].map(|end| format!("%{short}{end}")))
+        .collect()
+}
