@@ -20,7 +20,7 @@ use Rattle.laws.specs.Apart.{past}
 use Rattle.grammar.specs.declared.Node.the-variants as N
 use Rattle.grammar.proofs.Node as node
 use Rattle.grammar.specs.Words.{kindAt, nodeAt, nodeFor, nodeStart, nodeWord, nodes, word}
-use Rattle.table.specs.Fields.{callAt, nodeOfTwo}
+use Rattle.table.specs.Fields.{callAt, nodeOfTwo, headIn, headAt, placeFrom}
 
 -- only a call has more than two fields
 pub two-fields : (kind a b c d e f g h i : ℕ) → kind ≢ 7 → nodeFor kind a b c d e f g h i ≡ nodeOfTwo kind a b
@@ -80,6 +80,10 @@ module _ (words : List ℕ) (k : ℕ) where
   -- the kind that was read at the node's place
   pub kind-read : {place kind : ℕ} → place ≡ nodeStart words k → kind ≡ word words place → kindAt words k ≡ kind
   kind-read at read = rw (← at) (sym read)
+
+  -- what a reader of many nodes sees is node k
+  pub head-of : {first : ℕ} → first ≡ nodeStart words 0 → headIn words (placeFrom first k) ≡ headAt words k
+  head-of {first} e = let p : placeFrom first k ≡ nodeStart words k = omega arith in rw p
 
   -- a node whose kind is known: its fields are read, and no others matter
   pub node-of : (kind : ℕ) → kindAt words k ≡ kind

@@ -2,7 +2,7 @@
 ghost use mathlib.Core.Path.{_≡_};
 ghost use Prim.Native.Nat.{_+_, _*_, _<_, _≤_};
 ghost use Rattle.grammar.specs.Words.{inheritedCount, literalCount, nodeAt, nodeCount, nodeStart, kindAt, nodeWord, returnedCount, ruleCount, ruleStart, ruleWord, word};
-ghost use Rattle.table.specs.Fields.{callAt, nodeOfTwo};
+ghost use Rattle.table.specs.Fields.{callAt, nodeOfTwo, headIn, placeFrom};
 use grammar::Arithmetic;
 use grammar::Node;
 use grammar::Operator;
@@ -88,6 +88,32 @@ pub fn field_in(words: &[u16], place: u32, j: u16) -> u16
     ensures { λ w. ⌜ w ≡ word (now (words .entry)) (place + j) ⌝ }
 {
     word_at(words, place as usize + j as usize)
+}
+
+// The kind and the fields a and b: all that an expression has.
+pub struct Head {
+    pub kind: u16,
+    pub a: u16,
+    pub b: u16,
+}
+
+// Kind and fields a and b of node k, for readers of many nodes: they ask once where the record of node 0 lies.
+pub fn head_from(words: &[u16], first: u32, k: u16) -> Head
+    ensures { λ r. ⌜ r ≡ headIn (now (words .entry)) (placeFrom first k) ⌝ }
+{
+    let at = first as usize + 10 * k as usize;
+    if at + 2 < words.len() {
+        return Head {
+            kind: words[at],
+            a: words[at + 1],
+            b: words[at + 2],
+        };
+    }
+    Head {
+        kind: word_at(words, at),
+        a: word_at(words, at + 1),
+        b: word_at(words, at + 2),
+    }
 }
 
 // "Rule record: body node; n inherited; four types; m returned; four returned nodes; four returned types."
