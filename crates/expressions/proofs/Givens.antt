@@ -2,9 +2,9 @@
 use mathlib.Core.Path.{_≡_, refl, sym, _∙_}
 use mathlib.Core.Bool.{Bool, true, false, not, Bool·beq}
 use mathlib.Core.List.{List}
-use Prim.Native.Nat.{ℕ, zero, suc, _+_, _*_, _/_, _%_, _<_, _≤_}
+use Prim.Native.Nat.{ℕ, zero, suc, _+_, _*_, _-_, _/_, _%_, _<_, _≤_}
 use native.Mathlib.Omega.{arith}
-use borrow.Author.Tests.{ne-eqb, le-ltb}
+use borrow.Author.Tests.{ne-eqb, le-ltb, eqb-true, eqb-false}
 use lib.Dec.{eqb}
 use lib.IntN.{ℤ}
 use lib.ListN.{getD, length, take, length-take}
@@ -25,7 +25,7 @@ use Rattle.values.specs.Words.{wordOf, integerOf}
 use Rattle.values.proofs.Complement.{signed-is, integer-word}
 use Rattle.values.proofs.SlotList.{slot-read, slot-past, slot-among-first}
 use Rattle.expressions.specs.Meant.{ofIntegers}
-use Rattle.expressions.specs.Given.{givenOf, textTag, spanOf, operatorOf, leafOf}
+use Rattle.expressions.specs.Given.{givenOf, integerTags, textTag, spanOf, operatorOf, leafOf}
 
 -- ════ Small numbers, by cases ════
 
@@ -146,28 +146,41 @@ module _ (m l : List ℕ) (k : ℕ) where
   on-bool j v w = by-number (λ i. 6 ≤ i → wantBool k w truth ≡ operate m l (operatorOf i) k v w)
       (λ h. absurd (omega arith)) (λ h. absurd (omega arith)) (λ h. absurd (omega arith)) (λ h. absurd (omega arith)) (λ h. absurd (omega arith)) (λ h. absurd (omega arith)) (λ _. refl) (λ _. refl) (λ n _. refl) j
 
+  -- every operator but equal, at two Integers
+  at-integers : (j : ℕ) (a b : ℤ) → (j ≡ 4 → ⊥) → ofIntegers (operatorOf j) k a b ≡ operate m l (operatorOf j) k (Val.Integer a) (Val.Integer b)
+  unfolding operatorOf operate ofIntegers
+  at-integers j a b = by-number (λ i. (i ≡ 4 → ⊥) → ofIntegers (operatorOf i) k a b ≡ operate m l (operatorOf i) k (Val.Integer a) (Val.Integer b))
+      (λ _. refl) (λ _. refl) (λ _. refl) (λ _. refl) (λ other. absurd (other refl)) (λ _. refl) (λ _. refl) (λ _. refl) (λ n _. refl) j
+
   pub operate-equal : {j : ℕ} (v w : Value) → j ≡ 4 → equal m l k v w ≡ operate m l (operatorOf j) k v w
   unfolding operatorOf operate
   operate-equal v w e = rw e
 
-  pub operate-bool : (j : ℕ) (v : Value) (wt wp : ℕ) → 6 ≤ j → wt ≡ 1 → givenOf wt wp ≡ operate m l (operatorOf j) k v (valueOf wt wp)
+  pub operate-bool : (j : ℕ) (v : Value) (wt wp : ℕ) → 6 ≤ j → wt ≡ 1 → givenOf 1 wp ≡ operate m l (operatorOf j) k v (valueOf wt wp)
   unfolding givenOf valueOf
   operate-bool j v wt wp h e = rw e (on-bool j v (Val.Bool (eqb wp 1)) h)
 
   pub operate-no-bool : (j : ℕ) (v : Value) (wt wp : ℕ) → 6 ≤ j → (wt ≡ 1 → ⊥) → stuck k ≡ operate m l (operatorOf j) k v (valueOf wt wp)
   operate-no-bool j v wt wp h e = no-bool k wt wp truth e ∙ on-bool j v (valueOf wt wp) h
 
-  module _ (j vt vp wt wp : ℕ) (other : j ≡ 4 → ⊥) (below : j < 6) where
-    pub operate-no-left : (vt ≡ 2 → ⊥) → stuck k ≡ operate m l (operatorOf j) k (valueOf vt vp) (valueOf wt wp)
-    operate-no-left e = no-integer k vt vp _ e ∙ on-integers j (valueOf vt vp) (valueOf wt wp) other below
-
-    pub operate-no-right : vt ≡ 2 → (wt ≡ 2 → ⊥) → stuck k ≡ operate m l (operatorOf j) k (valueOf vt vp) (valueOf wt wp)
+  module _ (j vt vp wt wp : ℕ) (other : j ≡ 4 → ⊥) where
+    pub operate-integers : integerTags vt wt ≡ true → ofIntegers (operatorOf j) k (integerOf vp) (integerOf wp) ≡ operate m l (operatorOf j) k (valueOf vt vp) (valueOf wt wp)
     unfolding valueOf
-    operate-no-right e f = rw e (no-integer k wt wp (ofIntegers (operatorOf j) k (integerOf vp)) f ∙ on-integers j (Val.Integer (integerOf vp)) (valueOf wt wp) other below)
+    operate-integers both = by-left (eqb vt 2) refl
+      where
+        by-left : (t : Bool) → eqb vt 2 ≡ t → ofIntegers (operatorOf j) k (integerOf vp) (integerOf wp) ≡ operate m l (operatorOf j) k (valueOf vt vp) (valueOf wt wp)
+        by-left true e = rw (eqb-true vt 2 e, eqb-true wt 2 (rw e at both)) (at-integers j (integerOf vp) (integerOf wp) other)
+        by-left false e = never (rw e at both)
 
-    pub operate-integers : vt ≡ 2 → wt ≡ 2 → ofIntegers (operatorOf j) k (integerOf vp) (integerOf wp) ≡ operate m l (operatorOf j) k (valueOf vt vp) (valueOf wt wp)
+    pub operate-others : j < 6 → integerTags vt wt ≡ false → stuck k ≡ operate m l (operatorOf j) k (valueOf vt vp) (valueOf wt wp)
     unfolding valueOf
-    operate-integers e f = rw (e, f) (on-integers j (Val.Integer (integerOf vp)) (Val.Integer (integerOf wp)) other below)
+    operate-others below off = by-left (eqb vt 2) refl
+      where
+        by-left : (t : Bool) → eqb vt 2 ≡ t → stuck k ≡ operate m l (operatorOf j) k (valueOf vt vp) (valueOf wt wp)
+        by-left true e =
+            rw (eqb-true vt 2 e)
+            (no-integer k wt wp (ofIntegers (operatorOf j) k (integerOf vp)) (eqb-false wt 2 (rw e at off)) ∙ on-integers j (Val.Integer (integerOf vp)) (valueOf wt wp) other below)
+        by-left false e = no-integer k vt vp _ (eqb-false vt 2 e) ∙ on-integers j (valueOf vt vp) (valueOf wt wp) other below
 
 pub negated-bool : (k payload : ℕ) {tag : ℕ} → tag ≡ 1 → truth (not (eqb payload 1)) ≡ negated k (valueOf tag payload)
 unfolding valueOf negated
@@ -209,24 +222,34 @@ module _ (slots : Slots) (k a b : ℕ) where
   unfolding leafOf
   leaf-bool e = rw e
 
-  pub leaf-integer : {kind : ℕ} → kind ≡ 17 → givenOf 2 (a * 65536 + b) ≡ leafOf slots kind k a b
+  leaf-integer : {kind : ℕ} → kind ≡ 17 → givenOf 2 (a * 65536 + b) ≡ leafOf slots kind k a b
   unfolding leafOf givenOf
   leaf-integer e = rw e (rw (signed-is a b))
 
-  pub leaf-text : {kind : ℕ} → b < 65536 → kind ≡ 18 → givenOf 4 (a * 65536 + b) ≡ leafOf slots kind k a b
+  leaf-text : {kind : ℕ} → b < 65536 → kind ≡ 18 → givenOf 4 (a * 65536 + b) ≡ leafOf slots kind k a b
   unfolding leafOf givenOf
   leaf-text h e =
       let d : (a * 65536 + b) / 65536 ≡ a = omega arith in
       let r : (a * 65536 + b) % 65536 ≡ b = omega arith in
       rw (e, d, r)
 
+  -- an Integer or a Text
+  pub leaf-words : (kind : ℕ) → b < 65536 → 17 ≤ kind → kind < 19 → givenOf (2 * (kind - 16)) (a * 65536 + b) ≡ leafOf slots kind k a b
+  leaf-words kind h low high = by-test (eqb kind 17) refl
+    where
+      by-test : (t : Bool) → eqb kind 17 ≡ t → givenOf (2 * (kind - 16)) (a * 65536 + b) ≡ leafOf slots kind k a b
+      by-test true e = let is = eqb-true kind 17 e in let tag : 2 * (kind - 16) ≡ 2 = omega arith in rw tag (leaf-integer is)
+      by-test false e = let is : kind ≡ 18 = omega (arith, eqb-false kind 17 e) in let tag : 2 * (kind - 16) ≡ 4 = omega arith in rw tag (leaf-text h is)
+
   pub leaf-slot : {kind : ℕ} → kind ≡ 19 → present k (getD slots a Val.Absent) ≡ leafOf slots kind k a b
   unfolding leafOf
   leaf-slot e = rw e
 
-  pub leaf-other : (kind : ℕ) → (kind ≡ 16 → ⊥) → (kind ≡ 17 → ⊥) → (kind ≡ 18 → ⊥) → (kind ≡ 19 → ⊥) → truth false ≡ leafOf slots kind k a b
+  -- below 16
+  pub leaf-other : (kind : ℕ) → kind < 16 → truth false ≡ leafOf slots kind k a b
   unfolding leafOf
-  leaf-other kind n16 n17 n18 n19 = rw (ne-eqb kind 16 n16, ne-eqb kind 17 n17, ne-eqb kind 18 n18, ne-eqb kind 19 n19)
+  leaf-other kind h =
+      rw (ne-eqb kind 16 (λ e. omega arith), ne-eqb kind 17 (λ e. omega arith), ne-eqb kind 18 (λ e. omega arith), ne-eqb kind 19 (λ e. omega arith))
 
 -- ════ Bools and numbers that code has made ════
 

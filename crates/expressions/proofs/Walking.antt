@@ -1,28 +1,24 @@
 -- The steps of the walk over an expression: each comes to the same result, and has less before it. Assumes nothing.
-use mathlib.Core.Path.{_≡_, refl, ap, _∙_}
+use mathlib.Core.Path.{_≡_, refl, sym, ap, _∙_}
 use mathlib.Core.Bool.{Bool, true, false, cond, Bool·beq}
-use mathlib.Core.List.{List}
-use Prim.Native.Nat.{ℕ, zero, suc, _+_, _*_, _-_, _/_, _%_, _<_, _≤_}
+use mathlib.Core.List.{List, []}
+use Prim.Native.Nat.{ℕ, _+_, _*_, _-_, _/_, _%_, _<_, _≤_}
 use native.Mathlib.Omega.{arith}
-use borrow.Author.Tests.{lt-ltb, le-ltb, ltb-true, ltb-false, eqb-true, eqb-false}
-use lib.Dec.{ltb, eqb}
-use lib.ListN.{getD, length, take}
-use Rattle.laws.specs.Pile.{Walking, Piled, answered, opened, lowered, heavy, burden, heavy-some, heavy-two, heavy-one, burden-again, burden-some}
-use Rattle.grammar.specs.declared.Node.the-variants as N
+use borrow.Author.Tests.{lt-ltb, le-ltb, lt-leb, ltb-true, ltb-false, leb-false, eqb-true, eqb-false}
+use lib.Dec.{ltb, leb, eqb}
+use lib.ListN.{getD, set, length}
+use Rattle.laws.specs.Pile.{nearer, opened, closed, heavy, burden, heavy-two, heavy-one}
+use Rattle.laws.specs.Tests.{never}
 use Rattle.grammar.specs.declared.Value.{Value}
 use Rattle.grammar.specs.declared.Value.the-variants as Val
-use Rattle.grammar.specs.Run.{eval}
-use Rattle.grammar.specs.Tree.{Expr, exprOf, exprWith}
-use Rattle.grammar.specs.Values.{Evaluated, after, stuck, truth, lookLeft, operate, negated}
-use Rattle.grammar.specs.Words.{word, ruleCount}
-use Rattle.table.specs.Fields.{nodeOfTwo}
-use Rattle.values.specs.Slots.{slotsOf, valueOf}
+use Rattle.grammar.specs.Values.{Evaluated, value, after, stuck, truth, lookLeft, operate, negated}
+use Rattle.table.specs.declared.records.Head.{Head}
+use Rattle.values.specs.Slots.{valueOf}
 use Rattle.expressions.specs.declared.results.Given.{Given}
-use Rattle.expressions.specs.declared.walks.Walk.{Walk}
-use Rattle.expressions.specs.Given.{givenOf, given, held, operatorOf, leafOf}
-use Rattle.expressions.specs.Walks.{Asked, asked, Work, left, right, opposing, workIn, atWork, workAt, givesAt, withLeft, resolved, owed, Anything, walking, Steps, resultFound, Opened}
-use Rattle.expressions.proofs.Givens.{by-number, value-given, no-bool}
-use Rattle.expressions.proofs.Nodes.{leaf-node, far-node, binary-node, not-node, tree-seen}
+use Rattle.expressions.specs.Given.{givenOf, given, held, operatorOf}
+use Rattle.expressions.specs.Walks.{Asked, Work, left, right, opposing, workOf, workIn, atWork, workAt, Filled, givesAt, resolved, kept, owed, Goes, beginning, served, resting, turning, looksNoFurther, Seen, Steps}
+use Rattle.expressions.proofs.Givens.{by-number, value-given, end-given, no-bool}
+use Rattle.expressions.proofs.Nodes.{operator-gives}
 
 -- ════ Operators at work, in numbers ════
 
@@ -33,251 +29,197 @@ halves upper lower h =
     rw (u, l)
 
 module _ (upper lower : ℕ) where
-  as-right : 0 < upper / 1048576 % 8 → workIn upper lower ≡ right (upper % 65536) (operatorOf (upper / 65536 % 16)) (valueOf (upper / 1048576 % 8 - 1) lower)
+  pub as-right : 0 < upper / 16777216 → workIn upper lower ≡ right (upper % 65536) (operatorOf (upper / 65536 % 256)) (valueOf (upper / 16777216 - 1) lower)
   unfolding workIn
-  as-right h = rw (lt-ltb 0 (upper / 1048576 % 8) h)
+  as-right h = rw (lt-ltb 0 (upper / 16777216) h)
 
-  as-left : upper / 1048576 % 8 ≤ 0 → upper / 65536 % 16 < 8 → workIn upper lower ≡ left (upper % 65536) (operatorOf (upper / 65536 % 16)) (lower % 65536)
+  pub as-first : upper / 16777216 ≤ 0 → workIn upper lower ≡ workOf (upper / 65536 % 256) (upper % 65536) (lower % 65536)
   unfolding workIn
-  as-left h g = rw (le-ltb 0 (upper / 1048576 % 8) h, lt-ltb (upper / 65536 % 16) 8 g)
+  as-first h = rw (le-ltb 0 (upper / 16777216) h)
 
-  as-opposing : upper / 1048576 % 8 ≤ 0 → 8 ≤ upper / 65536 % 16 → workIn upper lower ≡ opposing (upper % 65536)
-  unfolding workIn
-  as-opposing h g = rw (le-ltb 0 (upper / 1048576 % 8) h, le-ltb (upper / 65536 % 16) 8 g)
-
-module _ (j k : ℕ) (h : k < 65536) where
-  abbrev plain : ℕ
-  plain = j * 65536 + k
-
-  plain-node : plain % 65536 ≡ k
-  plain-node = omega arith
-
-  plain-operator : j ≤ 8 → plain / 65536 % 16 ≡ j
-  plain-operator f = let d : plain / 65536 ≡ j = omega arith in rw d (omega arith)
-
-  at-left : (b : ℕ) → b < 65536 → j < 8 → workIn plain b ≡ left k (operatorOf j) b
-  at-left b g f =
-      let o = plain-operator (omega arith) in
+module _ (j k : ℕ) (h : k < 65536) (i : j < 256) where
+  pub at-first : (b : ℕ) → b < 65536 → workAt (atWork (j * 65536 + k) b) ≡ workOf j k b
+  at-first b g =
+      let upper = j * 65536 + k in
+      let d : upper / 65536 ≡ j = omega arith in
+      let o : j % 256 ≡ j = omega arith in
+      let n : upper % 65536 ≡ k = omega arith in
       let s : b % 65536 ≡ b = omega arith in
-      as-left plain b (omega arith) (omega arith) ∙ rw (plain-node, o, s)
+      halves upper b (omega arith) ∙ as-first upper b (omega arith) ∙ rw (d, o, n, s)
 
-  at-not : (b : ℕ) → j ≡ 8 → workIn plain b ≡ opposing k
-  at-not b f = let o = plain-operator (omega arith) in as-opposing plain b (omega arith) (omega arith) ∙ rw plain-node
-
-  at-right : (tag payload : ℕ) → tag < 5 → j < 8 → workIn ((tag + 1) * 1048576 + j * 65536 + k) payload ≡ right k (operatorOf j) (valueOf tag payload)
+  pub at-right : (tag payload : ℕ) → tag < 5 → payload < 4294967296
+      → workAt (atWork ((tag + 1) * 16777216 + j * 65536 + k) payload) ≡ right k (operatorOf j) (valueOf tag payload)
   at-right tag payload g f =
-      let upper = (tag + 1) * 1048576 + j * 65536 + k in
-      let d : upper / 65536 ≡ (tag + 1) * 16 + j = omega arith in
-      let e : ((tag + 1) * 16 + j) % 16 ≡ j = omega arith in
+      let upper = (tag + 1) * 16777216 + j * 65536 + k in
+      let d : upper / 65536 ≡ (tag + 1) * 256 + j = omega arith in
+      let e : ((tag + 1) * 256 + j) % 256 ≡ j = omega arith in
       let r : upper % 65536 ≡ k = omega arith in
-      let q : upper / 1048576 ≡ tag + 1 = omega arith in
-      let t : (tag + 1) % 8 ≡ tag + 1 = omega arith in
+      let q : upper / 16777216 ≡ tag + 1 = omega arith in
       let s : tag + 1 - 1 ≡ tag = omega arith in
-      let u : upper / 1048576 % 8 ≡ tag + 1 = rw q t in
-      as-right upper payload (omega arith) ∙ rw (r, d, e, q, t, s)
+      halves upper payload f ∙ as-right upper payload (omega arith) ∙ rw (r, d, e, q, s)
 
-owed-some : (A : Asked) (i : ℕ) (e : Work) → 0 < owed A i e
-unfolding owed
-owed-some A i (left k op b) = burden-some true (A .levels - (i + 1))
-owed-some A i (right k op v) = burden-some false 0
-owed-some A i (opposing k) = burden-some false 0
+-- ════ Weights ════
 
--- ════ The two ways a step ends ════
+module _ (A : Asked) where
+  kept-some : (i : ℕ) (e : Work) → 0 < kept A i e
+  unfolding kept
+  kept-some i (left k op b) = omega arith
+  kept-some i (right k op v) = omega arith
+  kept-some i (opposing k) = omega arith
 
-anything : (A : Asked) {pile : List ℕ} {d : ℕ} → d ≤ length pile → Piled (Anything A) pile d
-anything A room = record { room = room; each = λ i h. tt }
+  -- an operator that begins weighs less than the node it is
+  begins-lighter : (i : ℕ) (e : Work) → i < A .levels → 2 * heavy (A .levels - (i + 1)) + owed A i e < 2 * heavy (A .levels - i)
+  unfolding kept burden
+  begins-lighter i (left k op b) h = let l : A .levels - (i + 1) < A .levels - i = omega arith in let p = heavy-two l l in omega arith
+  begins-lighter i (right k op v) h = let l : A .levels - (i + 1) < A .levels - i = omega arith in let p = heavy-one 0 l in omega arith
+  begins-lighter i (opposing k) h = let l : A .levels - (i + 1) < A .levels - i = omega arith in let p = heavy-one 0 l in omega arith
 
-module _ (A : Asked) (w : Walking (Evaluated Value)) where
-  -- with a result
-  found-step : (g : Given) {v : Walk} → w .top ≤ length (w .pile) → v ≡ resultFound g (w .top) → given g ≡ w .result → 0 < w .weight → Steps A w (w .pile) v
-  unfolding walking
-  found-step g room e same less = rw e (answered w (anything A room) refl (λ i h. refl) same less)
+  -- an end is a result that no operator changes
+  pub end-stays : (i : ℕ) (e : Work) (g : Given) → 5 ≤ g .tag → given g ≡ resolved A i e (given g)
+  unfolding resolved
+  end-stays i (left k op b) g h = end-given (g .tag) (g .payload) _ h
+  end-stays i (right k op v) g h = end-given (g .tag) (g .payload) _ h
+  end-stays i (opposing k) g h = end-given (g .tag) (g .payload) _ h
 
-  -- with an operator more at work
-  open-step : {upper lower k : ℕ} {later : List ℕ} {v : Walk} → w .top < length (w .pile) → lower < 4294967296 → Opened (w .pile) (w .top) upper lower k later v
-      → resolved A (w .top) (workIn upper lower) (givesAt A (w .top + 1) k) ≡ w .result
-      → heavy (A .levels - (w .top + 1)) + owed A (w .top) (workIn upper lower) < w .weight → Steps A w later v
-  unfolding walking
-  open-step {upper} {lower} fits small o same less =
-      let h = halves upper lower small in
-      rw (o .walk, o .pile-is) (opened w (anything A (omega arith)) fits tt (rw h same) (rw h less))
-
--- ════ A node is due ════
-
-module _ (words literals message slots : List ℕ) (levels : ℕ) (pile : List ℕ) (w : Walk) (due : w .due ≡ true) (room : w .top ≤ length pile) where
-  abbrev A : Asked
-  A = asked words literals message slots levels
-
-  abbrev dueWalk : Walking (Evaluated Value)
-  dueWalk = record { pile = pile; top = w .top; result = givesAt A (w .top) (w .at); weight = heavy (levels - w .top) }
-
-  due-walk : walking A pile w ≡ dueWalk
-  unfolding walking
-  due-walk = rw due
-
-  -- no level is left
-  pub entered-none : (g : Given) {v : Walk} → v ≡ resultFound g (w .top) → given g ≡ truth false → levels ≤ w .top → Steps A (walking A pile w) pile v
-  unfolding eval exprWith
-  entered-none g e same h =
-      let z : levels - w .top ≡ 0 = omega arith in
-      rw due-walk (found-step A dueWalk g room e (rw z same) (heavy-some (levels - w .top)))
-
-  module _ {rules start kind a b : ℕ} (below : w .top < levels) (isRules : rules ≡ ruleCount words) (isStart : start ≡ 3 + 15 * rules + 10 * w .at)
-      (isKind : kind ≡ word words start) (isA : a ≡ word words (start + 1)) (isB : b ≡ word words (start + 2)) where
-    abbrev rest : ℕ
-    rest = levels - (w .top + 1)
-
-    abbrev seen : Expr
-    seen = exprOf (exprWith rest words) (w .at) (nodeOfTwo kind a b)
-
-    tree : exprWith (levels - w .top) words (w .at) ≡ seen
-    tree = tree-seen words (w .at) isRules isStart isKind isA isB (levels - w .top) rest (omega arith)
-
-    pub entered-leaf : (g : Given) {v : Walk} → v ≡ resultFound g (w .top) → given g ≡ leafOf (slotsOf (take 32 slots)) kind (w .at) a b → kind < 20 → Steps A (walking A pile w) pile v
-    entered-leaf g e same h =
-        rw due-walk (found-step A dueWalk g room e (rw tree (same ∙ leaf-node (A .setting) (A .slots) (exprWith rest words) (w .at) a b kind h)) (heavy-some (levels - w .top)))
-
-    pub entered-far : (g : Given) {v : Walk} → v ≡ resultFound g (w .top) → given g ≡ truth false → 28 < kind → Steps A (walking A pile w) pile v
-    entered-far g e same h =
-        rw due-walk (found-step A dueWalk g room e (rw tree (same ∙ far-node (A .setting) (A .slots) (exprWith rest words) (w .at) a b kind h)) (heavy-some (levels - w .top)))
-
-    module _ {later : List ℕ} {v : Walk} (o : Opened pile (w .top) ((kind - 20) * 65536 + w .at) b a later v) (fk : w .at < 65536) (fb : b < 65536) (fits : w .top < length pile) where
-      two-operands : 20 ≤ kind → kind - 20 < 8 → Steps A (walking A pile w) later v
-      unfolding resolved owed eval exprOf
-      two-operands low j =
-          let s : kind ≡ 20 + (kind - 20) = omega arith in
-          let is : nodeOfTwo kind a b ≡ N.Binary (operatorOf (kind - 20)) a b = (ap (λ (x : ℕ). nodeOfTwo x a b) s ∙ binary-node (kind - 20) a b j) in
-          let work = at-left (kind - 20) (w .at) fk b fb j in
-          rw due-walk (open-step A dueWalk fits (omega arith) o (rw (work, tree, is)) (rw work (heavy-two (omega arith) (omega arith))))
-
-      one-operand : 20 ≤ kind → kind - 20 ≡ 8 → Steps A (walking A pile w) later v
-      unfolding resolved owed eval exprOf
-      one-operand low j =
-          let is : nodeOfTwo kind a b ≡ N.Negation a = not-node a b (let s : kind ≡ 28 = omega arith in s) in
-          let work = at-not (kind - 20) (w .at) fk b j in
-          rw due-walk (open-step A dueWalk fits (omega arith) o (rw (work, tree, is)) (rw work (heavy-one 0 (omega arith))))
-
-      pub entered-operator : 20 ≤ kind → kind ≤ 28 → Steps A (walking A pile w) later v
-      entered-operator low high = by-test (ltb (kind - 20) 8) refl
-        where
-          by-test : (t : Bool) → ltb (kind - 20) 8 ≡ t → Steps A (walking A pile w) later v
-          by-test true e = two-operands low (ltb-true (kind - 20) 8 e)
-          by-test false e = one-operand low (omega (arith, ltb-false (kind - 20) 8 e))
+pub held-given : (g : Given) → g .tag < 5 → given g ≡ value (held g)
+held-given g h = value-given (g .tag) (g .payload) h
 
 -- ════ The left value ════
 
+pub as-left : (j k b : ℕ) → j < 8 → workOf j k b ≡ left k (operatorOf j) b
+as-left j k b h = rw (lt-ltb j 8 h)
+
 module _ (m l : List ℕ) (k : ℕ) (rest : Evaluated Value) where
-  look-eager : (j : ℕ) (v : Value) → j < 6 → rest ≡ lookLeft m l (operatorOf j) k v rest
+  -- and is 6, or is 7
+  abbrev looked : ℕ → Value → Evaluated Value
+  looked j v = lookLeft m l (operatorOf j) k v rest
+
+  look-eager : (j : ℕ) (v : Value) → j < 6 → rest ≡ looked j v
   unfolding operatorOf lookLeft
   look-eager j v = by-number (λ i. i < 6 → rest ≡ lookLeft m l (operatorOf i) k v rest)
       (λ _. refl) (λ _. refl) (λ _. refl) (λ _. refl) (λ _. refl) (λ _. refl) (λ h. absurd (omega arith)) (λ h. absurd (omega arith)) (λ n h. absurd (omega arith)) j
 
-  -- and is 6, or is 7
-  abbrev lazily : ℕ → Value → Evaluated Value
-  lazily j v = lookLeft m l (operatorOf j) k v rest
-
-  look-no-bool : (j tag payload : ℕ) → 6 ≤ j → j < 8 → (tag ≡ 1 → ⊥) → stuck k ≡ lazily j (valueOf tag payload)
+  look-no-bool : (j tag payload : ℕ) → 6 ≤ j → j < 8 → (tag ≡ 1 → ⊥) → stuck k ≡ looked j (valueOf tag payload)
   unfolding operatorOf lookLeft
   look-no-bool j tag payload low high n = by-test (eqb j 7) refl
     where
-      by-test : (t : Bool) → eqb j 7 ≡ t → stuck k ≡ lazily j (valueOf tag payload)
+      by-test : (t : Bool) → eqb j 7 ≡ t → stuck k ≡ looked j (valueOf tag payload)
       by-test true e = rw (eqb-true j 7 e) (no-bool k tag payload _ n)
       by-test false e = let s : j ≡ 6 = omega (arith, eqb-false j 7 e) in rw s (no-bool k tag payload _ n)
 
   abbrev chosen : Bool → Bool → Evaluated Value
   chosen b or = cond (Bool·beq b or) (truth b) rest
 
-  look-bool : (j payload : ℕ) → 6 ≤ j → j < 8 → chosen (eqb payload 1) (eqb j 7) ≡ lazily j (Val.Bool (eqb payload 1))
+  look-bool : (j payload : ℕ) → 6 ≤ j → j < 8 → chosen (eqb payload 1) (eqb j 7) ≡ looked j (Val.Bool (eqb payload 1))
   unfolding operatorOf lookLeft
   look-bool j payload low high = by-test (eqb j 7) refl (eqb payload 1)
     where
-      by-test : (t : Bool) → eqb j 7 ≡ t → (b : Bool) → chosen b (eqb j 7) ≡ lazily j (Val.Bool b)
+      by-test : (t : Bool) → eqb j 7 ≡ t → (b : Bool) → chosen b (eqb j 7) ≡ looked j (Val.Bool b)
       by-test true e true = rw (eqb-true j 7 e)
       by-test true e false = rw (eqb-true j 7 e)
       by-test false e true = let s : j ≡ 6 = omega (arith, eqb-false j 7 e) in rw s
       by-test false e false = let s : j ≡ 6 = omega (arith, eqb-false j 7 e) in rw s
 
-  look-decided : (j tag payload : ℕ) → 6 ≤ j → j < 8 → tag ≡ 1 → Bool·beq (eqb payload 1) (eqb j 7) ≡ true → givenOf tag payload ≡ lazily j (valueOf tag payload)
+  look-decided : (j tag payload : ℕ) → 6 ≤ j → j < 8 → tag ≡ 1 → Bool·beq (eqb payload 1) (eqb j 7) ≡ true → givenOf 1 payload ≡ looked j (valueOf tag payload)
   unfolding givenOf valueOf
   look-decided j tag payload low high e d = rw e (rw d at (look-bool j payload low high))
 
-  look-open : (j tag payload : ℕ) → 6 ≤ j → j < 8 → tag ≡ 1 → Bool·beq (eqb payload 1) (eqb j 7) ≡ false → rest ≡ lazily j (valueOf tag payload)
+  look-open : (j tag payload : ℕ) → 6 ≤ j → j < 8 → tag ≡ 1 → Bool·beq (eqb payload 1) (eqb j 7) ≡ false → rest ≡ looked j (valueOf tag payload)
   unfolding valueOf
   look-open j tag payload low high e d = rw e (rw d at (look-bool j payload low high))
 
-module _ (A : Asked) (pile : List ℕ) (n j k b : ℕ) (g : Given) (fits : n < length pile) where
-  abbrev turning : Walking (Evaluated Value)
-  turning = record { pile = pile; top = n; result = withLeft A (n + 1) k (operatorOf j) b (held g); weight = burden true (A .levels - (n + 1)) }
+module _ (j : ℕ) (v : Given) where
+  -- in its order: how the test comes out
+  no-further : 6 ≤ j → j < 8 → v .tag ≡ 1 → looksNoFurther j v ≡ Bool·beq (eqb (v .payload) 1) (eqb j 7)
+  no-further low high e = rw (le-ltb j 6 low, lt-leb 8 j high, e)
 
-  abbrev right-operand : Evaluated Value
-  right-operand = after (givesAt A (n + 1) b) (λ w. operate (A .setting .message) (A .setting .literals) (operatorOf j) k (held g) w)
+  -- the right operand is wanted
+  pub wants-right : looksNoFurther j v ≡ false → (m l : List ℕ) (k : ℕ) (rest : Evaluated Value) → (j < 8) × (rest ≡ lookLeft m l (operatorOf j) k (held v) rest)
+  wants-right off m l k rest = by-eager (ltb j 6) refl
+    where
+      by-bool : 6 ≤ j → j < 8 → (t : Bool) → eqb (v .tag) 1 ≡ t → (j < 8) × (rest ≡ lookLeft m l (operatorOf j) k (held v) rest)
+      by-bool low high true e =
+          (high, look-open m l k rest j (v .tag) (v .payload) low high (eqb-true (v .tag) 1 e) (sym (no-further low high (eqb-true (v .tag) 1 e)) ∙ off))
+      by-bool low high false e = never (sym (rw (le-ltb j 6 low, lt-leb 8 j high, e) at off))
 
-  turned-found : (r : Given) {v : Walk} → v ≡ resultFound r n → given r ≡ withLeft A (n + 1) k (operatorOf j) b (held g) → Steps A turning pile v
-  turned-found r e same = found-step A turning r (omega arith) e same (burden-some true (A .levels - (n + 1)))
+      by-not : 6 ≤ j → (t : Bool) → leb 8 j ≡ t → (j < 8) × (rest ≡ lookLeft m l (operatorOf j) k (held v) rest)
+      by-not low true e = never (sym (rw (le-ltb j 6 low, e) at off))
+      by-not low false e = by-bool low (omega (arith, leb-false 8 j e)) (eqb (v .tag) 1) refl
 
-  pub turned-stuck : (r : Given) {v : Walk} → v ≡ resultFound r n → given r ≡ stuck k → 6 ≤ j → j < 8 → (g .tag ≡ 1 → ⊥) → Steps A turning pile v
-  turned-stuck r e same low high t =
-      turned-found r e (same ∙ look-no-bool (A .setting .message) (A .setting .literals) k right-operand j (g .tag) (g .payload) low high t)
+      by-eager : (t : Bool) → ltb j 6 ≡ t → (j < 8) × (rest ≡ lookLeft m l (operatorOf j) k (held v) rest)
+      by-eager true e = let h = ltb-true j 6 e in (omega arith, look-eager m l k rest j (held v) h)
+      by-eager false e = by-not (ltb-false j 6 e) (leb 8 j) refl
 
-  pub turned-decided : {v : Walk} → v ≡ resultFound g n → 6 ≤ j → j < 8 → g .tag ≡ 1 → Bool·beq (eqb (g .payload) 1) (eqb j 7) ≡ true → Steps A turning pile v
-  turned-decided e low high t d =
-      turned-found g e (look-decided (A .setting .message) (A .setting .literals) k right-operand j (g .tag) (g .payload) low high t d)
+  pub below-eight : looksNoFurther j v ≡ false → j < 8
+  below-eight off = wants-right off [] [] 0 (given v) .0
 
-  module _ {later : List ℕ} {v : Walk} (o : Opened pile n ((g .tag + 1) * 1048576 + j * 65536 + k) (g .payload) b later v) (fk : k < 65536) (fp : g .payload < 4294967296) (isValue : g .tag < 5) where
-    turned-on : j < 8 → right-operand ≡ withLeft A (n + 1) k (operatorOf j) b (held g) → Steps A turning later v
-    unfolding resolved owed
-    turned-on high same =
-        let work = at-right j k fk (g .tag) (g .payload) isValue high in
-        open-step A turning fits fp o (rw work same) (rw work (burden-again 0 (A .levels - (n + 1))))
+  -- and where it isn't
+  not-eager : looksNoFurther j v ≡ true → 6 ≤ j
+  not-eager on = by-eager (ltb j 6) refl
+    where
+      by-eager : (t : Bool) → ltb j 6 ≡ t → 6 ≤ j
+      by-eager true e = never (rw e at on)
+      by-eager false e = ltb-false j 6 e
 
-    pub turned-eager : j < 6 → Steps A turning later v
-    turned-eager h = turned-on (omega arith) (look-eager (A .setting .message) (A .setting .literals) k right-operand j (held g) h)
+  module _ (k b : ℕ) (A : Asked) (n : ℕ) where
+    pub alone-not : {r : Evaluated Value} → 8 ≤ j → r ≡ negated k (held v) → r ≡ resolved A n (workOf j k b) (value (held v))
+    unfolding resolved
+    alone-not h same = rw (le-ltb j 8 h) same
 
-    pub turned-open : 6 ≤ j → j < 8 → g .tag ≡ 1 → Bool·beq (eqb (g .payload) 1) (eqb j 7) ≡ false → Steps A turning later v
-    turned-open low high t d =
-        turned-on high (look-open (A .setting .message) (A .setting .literals) k right-operand j (g .tag) (g .payload) low high t d)
+    pub alone-stuck : {r : Evaluated Value} → looksNoFurther j v ≡ true → j < 8 → (v .tag ≡ 1 → ⊥) → r ≡ stuck k → r ≡ resolved A n (workOf j k b) (value (held v))
+    unfolding resolved
+    alone-stuck on high e same =
+        rw (as-left j k b high) (same ∙ look-no-bool (A .setting .message) (A .setting .literals) k _ j (v .tag) (v .payload) (not-eager on) high e)
 
--- ════ A value was found ════
+    pub alone-decided : looksNoFurther j v ≡ true → j < 8 → v .tag ≡ 1 → givenOf 1 (v .payload) ≡ resolved A n (workOf j k b) (value (held v))
+    unfolding resolved
+    alone-decided on high e =
+        let low = not-eager on in
+        rw (as-left j k b high) (look-decided (A .setting .message) (A .setting .literals) k _ j (v .tag) (v .payload) low high e (sym (no-further low high e) ∙ on))
 
-module _ (A : Asked) (pile : List ℕ) (w : Walk) (found : w .due ≡ false) (isValue : w .tag < 5) (some : 0 < w .top) (room : w .top ≤ length pile) where
-  abbrev foundWalk : Walking (Evaluated Value)
-  foundWalk = record { pile = pile; top = w .top; result = givenOf (w .tag) (w .payload); weight = 0 }
+-- ════ Steps ════
 
-  abbrev upper : ℕ
-  upper = getD pile (w .top - 1) 0 / 4294967296
+abbrev operator : Head → (k : ℕ) → Work
+operator h k = workOf (h .kind - 20) k (h .b)
 
-  abbrev lower : ℕ
-  lower = getD pile (w .top - 1) 0 % 4294967296
+module _ (A : Asked) (pile : List ℕ) (n : ℕ) (filled : Filled (A .levels) pile n) where
+  module _ (e : Work) (a : ℕ) (g : Given) (same : given g ≡ givesAt A (n + 1) a) where
+    -- the left or only operand has its value, or ends the run
+    pub began-left : g .tag < 5 → Goes A (beginning A pile n e a) (served A pile n e (value (held g)))
+    began-left h = nearer (beginning A pile n e a) filled (ap (resolved A n e) (sym (held-given g h) ∙ same)) (omega arith)
 
-  found-walk : walking A pile w ≡ foundWalk
-  unfolding walking
-  found-walk = rw found
+    pub began-end : 5 ≤ g .tag → Goes A (beginning A pile n e a) (resting A pile n (given g))
+    began-end h = nearer (beginning A pile n e a) filled (end-stays A n e g h ∙ ap (resolved A n e) same) (omega arith)
 
-  -- the operator on top has its value, and a result with it
-  resumed-with : (r : Given) {v : Walk} → v ≡ resultFound r (w .top - 1) → given r ≡ resolved A (w .top - 1) (workIn upper lower) (givenOf (w .tag) (w .payload)) → Steps A (walking A pile w) pile v
-  resumed-with r e same =
-      rw found-walk (lowered foundWalk (anything A room) some refl refl (found-step A _ r (omega arith) e same (omega (arith, owed-some A (w .top - 1) (workIn upper lower)))))
+  -- the right operand has, or ends it
+  module _ (j k b : ℕ) (v g : Given) (same : given g ≡ givesAt A (n + 1) b) where
+    pub turned-both : g .tag < 5 → Goes A (turning A pile n j k b v) (served A pile n (right k (operatorOf j) (held v)) (value (held g)))
+    unfolding resolved kept
+    turned-both h = nearer (turning A pile n j k b v) filled (ap (resolved A n (right k (operatorOf j) (held v))) (sym (held-given g h) ∙ same)) (omega arith)
 
-  pub resumed-right : (r : Given) {v : Walk} → v ≡ resultFound r (w .top - 1) → 0 < upper / 1048576 % 8
-      → given r ≡ operate (A .setting .message) (A .setting .literals) (operatorOf (upper / 65536 % 16)) (upper % 65536) (valueOf (upper / 1048576 % 8 - 1) lower) (valueOf (w .tag) (w .payload))
-      → Steps A (walking A pile w) pile v
-  unfolding resolved
-  resumed-right r e t same = resumed-with r e (rw (as-right upper lower t, value-given (w .tag) (w .payload) isValue) same)
+    pub turned-end : 5 ≤ g .tag → Goes A (turning A pile n j k b v) (resting A pile n (given g))
+    unfolding resolved kept
+    turned-end h =
+        nearer (turning A pile n j k b v) filled
+        (end-stays A n (right k (operatorOf j) (held v)) g h ∙ ap (resolved A n (right k (operatorOf j) (held v))) same)
+        (omega arith)
 
-  pub resumed-not : (r : Given) {v : Walk} → v ≡ resultFound r (w .top - 1) → upper / 1048576 % 8 ≤ 0 → 8 ≤ upper / 65536 % 16
-      → given r ≡ negated (upper % 65536) (valueOf (w .tag) (w .payload)) → Steps A (walking A pile w) pile v
-  unfolding resolved
-  resumed-not r e t j same = resumed-with r e (rw (as-opposing upper lower t j, value-given (w .tag) (w .payload) isValue) same)
+  -- an operand is an operator, and begins
+  module _ {x : ℕ} {h : Head} (s : Seen (A .words) (A .levels) (n + 1) x h) (low : 20 ≤ h .kind) (fits : n < length pile) where
+    pub began-work : (f : ℕ) (e : Work) → workAt f ≡ e → Goes A (beginning A pile n e x) (beginning A (set pile n f) (n + 1) (operator h x) (h .a))
+    began-work f e is =
+        opened (beginning A pile n e x) filled fits (s .within low) (rw (is, operator-gives A s low)) (rw is (omega (arith, begins-lighter A (n + 1) (operator h x) (s .within low))))
 
-  pub resumed-left : (later : List ℕ) (v : Walk) → upper / 1048576 % 8 ≤ 0 → upper / 65536 % 16 < 8
-      → Steps A (record {
-        pile = pile;
-        top = w .top - 1;
-        result = withLeft A (w .top - 1 + 1) (upper % 65536) (operatorOf (upper / 65536 % 16)) (lower % 65536) (valueOf (w .tag) (w .payload));
-        weight = burden true (A .levels - (w .top - 1 + 1));
-      }) later v
-      → Steps A (walking A pile w) later v
-  unfolding resolved owed
-  resumed-left later v t j on =
-      let work = as-left upper lower t j in
-      rw found-walk (lowered foundWalk (anything A room) some (rw (work, value-given (w .tag) (w .payload) isValue)) (rw work (omega arith)) on)
+    pub turned-work : (f j k : ℕ) (v : Given) → workAt f ≡ right k (operatorOf j) (held v) → Goes A (turning A pile n j k x v) (beginning A (set pile n f) (n + 1) (operator h x) (h .a))
+    unfolding resolved kept
+    turned-work f j k v is =
+        opened (turning A pile n j k x v) filled fits (s .within low) (rw is (ap (λ (r : Evaluated Value). after r (λ w. operate (A .setting .message) (A .setting .literals) (operatorOf j) k (held v) w)) (operator-gives A s low)))
+        (rw is (omega (arith, begins-lighter A (n + 1) (operator h x) (s .within low))))
+
+  -- an operator with its left or only value looks no further, or it has both values
+  pub served-found : (e : Work) (r x : Evaluated Value) → x ≡ resolved A n e r → Goes A (served A pile n e r) (resting A pile n x)
+  served-found e r x same = nearer (served A pile n e r) filled same (kept-some A n e)
+
+-- a result goes to the number on top
+pub popped : (A : Asked) (pile : List ℕ) (top : ℕ) (r : Evaluated Value) → Filled (A .levels) pile top → 0 < top → Goes A (resting A pile top r) (served A pile (top - 1) (workAt (getD pile (top - 1) 0)) r)
+popped A pile top r filled some = closed (resting A pile top r) filled some refl (omega arith)

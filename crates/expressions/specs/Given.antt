@@ -43,6 +43,13 @@ given g = givenOf (g .tag) (g .payload)
 abbrev pub held : Given → Value
 held g = valueOf (g .tag) (g .payload)
 
+-- are they both Integers
+abbrev pub integerTags : (vt wt : ℕ) → Bool
+integerTags vt wt = cond (eqb vt 2) (eqb wt 2) false
+
+abbrev pub bothIntegers : Given → Given → Bool
+bothIntegers v w = integerTags (v .tag) (w .tag)
+
 -- is it a Text, and which part
 abbrev pub textTag : ℕ → Bool
 textTag tag = cond (ltb tag 3) false (ltb tag 5)

@@ -21,10 +21,10 @@ pub enum Evaluated {
 }
 
 // The levels of node k that are looked at.
-fn levels_of(k: u16) -> u16
+fn levels_of(k: u16) -> usize
     ensures { λ r. ⌜ (r ≡ levelsOf k) × (0 < r) × (r ≤ 1024) ⌝ }
 {
-    if k < 1024 { k + 1 } else { 1024 }
+    if k < 1024 { k as usize + 1 } else { 1024 }
 }
 
 // What expression node k gives, with the slots in the first 32 words of `slots`: for a table of sound form as document 01 says. A part has a

@@ -1,11 +1,12 @@
 // Results in two words, and what leaves and operators give.
 ghost use mathlib.Core.Path.{_≡_};
+ghost use Prim.Native.Nat.{_<_};
 ghost use lib.ListN.{take};
 ghost use Rattle.grammar.specs.Values.{numberAt, present, equal, operate, negated};
 ghost use Rattle.grammar.specs.Values as written;
 ghost use Rattle.values.specs.Slots.{slotsOf, slotAt};
 ghost use Rattle.expressions.specs.Meant.{meant, ofIntegers};
-ghost use Rattle.expressions.specs.Given.{given, held, operatorOf, leafOf, isText, spanIn};
+ghost use Rattle.expressions.specs.Given.{given, held, operatorOf, leafOf, isText, bothIntegers, spanIn};
 use crate::Evaluated;
 use grammar::Arithmetic;
 use grammar::Ending;
@@ -16,9 +17,10 @@ use values::slots::value_of;
 use values::words::integer_of;
 use values::words::word_of;
 
-// A result in two words: a value's tag and payload as in a slot; or, from tag 5 on, why the run ends, and the node.
+// A result in two words: a value's tag and payload as in a slot; or, from tag 5 on, why the run ends, and the node. (In 64 bits together the compiler would keep the two in one
+// register, and take them apart at each use: hence the wide tag.)
 pub struct Given {
-    pub tag: u32,
+    pub tag: u64,
     pub payload: u32,
 }
 
@@ -59,27 +61,29 @@ fn slot_given(slots: &[u32], s: u16, k: u16) -> Given
         return stuck(k);
     }
     Given {
-        tag: tag,
+        tag: tag as u64,
         payload: slots[at + 1],
     }
 }
 
-// A node below 20, from its kind and its fields a and b; what is no expression counts as false.
+// A node below 20, from its kind and its fields a and b; what is no expression counts as false. Integers, 17, and Texts, 18, have tags 2 and 4.
 pub(crate) fn leaf(slots: &[u32], kind: u16, k: u16, a: u16, b: u16) -> Given
+    requires { ⌜ kind < 20 ⌝ }
     ensures { λ r. ⌜ given r ≡ leafOf (slotsOf (take 32 (now (slots .entry)))) kind k a b ⌝ }
 {
-    match kind {
-        16 => truth(a == 1),
-        17 => Given {
-            tag: 2,
-            payload: a as u32 * 65536 + b as u32,
-        },
-        18 => Given {
-            tag: 4,
-            payload: a as u32 * 65536 + b as u32,
-        },
-        19 => slot_given(slots, a, k),
-        _ => truth(false),
+    if kind == 19 {
+        return slot_given(slots, a, k);
+    }
+    if kind < 17 {
+        return if kind == 16 {
+            truth(a == 1)
+        } else {
+            truth(false)
+        };
+    }
+    Given {
+        tag: 2 * (kind as u64 - 16),
+        payload: a as u32 * 65536 + b as u32,
     }
 }
 
@@ -105,7 +109,7 @@ fn number_given(n: Number, k: u16) -> Given
 }
 
 // Operator j, of node k, at two Integers.
-fn integers_given(j: u32, k: u16, a: i32, b: i32) -> Given
+fn integers_given(j: u8, k: u16, a: i32, b: i32) -> Given
     ensures { λ r. ⌜ given r ≡ ofIntegers (operatorOf j) k a b ⌝ }
 {
     match j {
@@ -163,11 +167,17 @@ fn equal_given<'a>(message: &'a [u8], literals: &'a [u8], k: u16, v: Given, w: G
     stuck(k)
 }
 
+fn both_integers(v: Given, w: Given) -> bool
+    ensures { λ r. ⌜ r ≡ bothIntegers v w ⌝ }
+{
+    if v.tag == 2 { w.tag == 2 } else { false }
+}
+
 // Operator j, of node k: "types are looked at after the operands".
 pub(crate) fn operate_given<'a>(
     message: &'a [u8],
     literals: &'a [u8],
-    j: u32,
+    j: u8,
     k: u16,
     v: Given,
     w: Given,
@@ -177,16 +187,19 @@ pub(crate) fn operate_given<'a>(
     if j == 4 {
         return equal_given(message, literals, k, v, w);
     }
-    if 6 <= j {
-        return if w.tag == 1 { w } else { stuck(k) };
+    if both_integers(v, w) {
+        return integers_given(j, k, integer_of(v.payload), integer_of(w.payload));
     }
-    if v.tag != 2 {
+    if j < 6 {
         return stuck(k);
     }
-    if w.tag != 2 {
+    if w.tag != 1 {
         return stuck(k);
     }
-    integers_given(j, k, integer_of(v.payload), integer_of(w.payload))
+    Given {
+        tag: 1,
+        payload: w.payload,
+    }
 }
 
 pub(crate) fn negate_given(k: u16, v: Given) -> Given
@@ -205,7 +218,7 @@ pub(crate) fn evaluated(g: Given) -> Evaluated
 {
     let tag = g.tag;
     if tag < 5 {
-        return Evaluated::Is(value_of(tag, g.payload));
+        return Evaluated::Is(value_of(tag as u32, g.payload));
     }
     let k = (g.payload % 65536) as u16;
     match tag {

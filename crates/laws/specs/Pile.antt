@@ -46,6 +46,10 @@ pub record Onward {A : Type 0} (f : ℕ → ℕ → A → A) (g : ℕ → ℕ �
   pub same : comesTo f v ≡ comesTo f w
   pub less : weighs g v < weighs g w
 
+-- two steps are one
+pub onward-again : {A : Type 0} {f : ℕ → ℕ → A → A} {g : ℕ → ℕ → ℕ} {P : ℕ → ℕ → Type 0} {w v u : Walking A} → Onward f g P w v → Onward f g P v u → Onward f g P w u
+onward-again p q = record { long = q .long ∙ p .long; piled = q .piled; same = q .same ∙ p .same; less = omega arith }
+
 -- ════ What stands above the pile doesn't matter ════
 
 -- the same numbers below d
@@ -127,6 +131,11 @@ module _ {A : Type 0} {f : ℕ → ℕ → A → A} {g : ℕ → ℕ → ℕ} {P
         less = rw (total-alike g (w .pile) later (w .top) alike) (omega arith);
       }
 
+  -- it came nearer to its result
+  pub nearer : {a : A} {m : ℕ} → a ≡ w .result → m < w .weight → Onward f g P w (record { pile = w .pile; top = w .top; result = a; weight = m })
+  unfolding comesTo weighs
+  nearer same less = record { long = refl; piled = piled; same = ap (through f (w .pile) (w .top)) same; less = omega arith }
+
   -- the node that was due goes to work, as x, and a part of it is due
   pub opened : {x m : ℕ} {a : A} → w .top < length (w .pile) → P (w .top) x → f (w .top) x a ≡ w .result → m + g (w .top) x < w .weight
       → Onward f g P w (record { pile = set (w .pile) (w .top) x; top = w .top + 1; result = a; weight = m })
@@ -141,19 +150,6 @@ module _ {A : Type 0} {f : ℕ → ℕ → A → A} {g : ℕ → ℕ → ℕ} {P
 
   -- a result was found, and goes to the topmost number
   module _ (some : 0 < w .top) where
-    -- a step of the walk that the topmost number makes of it
-    pub lowered : {v : Walking A} {a : A} {m : ℕ} → a ≡ f (under w) (topmost w) (w .result) → m ≡ w .weight + g (under w) (topmost w)
-        → Onward f g P (record { pile = w .pile; top = under w; result = a; weight = m }) v → Onward f g P w v
-    unfolding comesTo weighs
-    lowered {m = m} same weight on =
-        let less = on .less in
-        record {
-          long = on .long;
-          piled = on .piled;
-          same = on .same ∙ ap (through f (w .pile) (under w)) same ∙ sym (through-topmost w some f);
-          less = rw (total-topmost w some g) (omega arith);
-        }
-
     -- the topmost number goes, and its result is found, or a part of it is due
     pub closed : {m : ℕ} {a : A} → a ≡ f (under w) (topmost w) (w .result) → m < w .weight + g (under w) (topmost w)
         → Onward f g P w (record { pile = w .pile; top = under w; result = a; weight = m })

@@ -6,6 +6,9 @@ use borrow.Author.Needs.{needs}
 use Rattle.expressions.proofs.results.evaluated.Statement.{statement}
 use Rattle.expressions.proofs.results.evaluated.Tie as tie
 
+cast-value-of : tie.Need-cast-value-of
+cast-value-of c = search needs
+
 value-of-requires : tie.Need-value-of-requires
 value-of-requires c κs = search needs
 
@@ -30,4 +33,5 @@ returns-4 c = stuck-given (c .before .before .before .args .g .tag) (c .before .
 
 pub evaluated-spec : {M : Type 1} → statement M
 evaluated-spec =
-    tie.close (tie.spec value-of-requires returns cast-k returns-2 returns-3 returns-4)
+    tie.close
+    (tie.spec cast-value-of value-of-requires returns cast-k returns-2 returns-3 returns-4)

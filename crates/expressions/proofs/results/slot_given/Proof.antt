@@ -41,6 +41,9 @@ stuck-requires-4 c κs = search needs
 returns-4 : tie.Need-returns-4
 returns-4 c = c .stuck4 .ensures ∙ (present-other (c .before .before .before .before .before .before .before .args .k) _ _ (c .before .if4 .taken) ∙ slot-there (c .before .before .before .before .before .before .before .args .slots .now) (c .before .before .before .before .before .before .before .args .s) (c .before .before .before .before .before .before .before .args .k) (omega arith) (omega arith))
 
+cast-t11 : tie.Need-cast-t11
+cast-t11 c = search needs
+
 add-t8 : tie.Need-add-t8
 add-t8 c = search needs
 
@@ -69,6 +72,7 @@ slot-given-spec =
     returns-3
     stuck-requires-4
     returns-4
+    cast-t11
     add-t8
     mul-t7
     shared-slice-read-t10
