@@ -228,11 +228,11 @@ fn right(
         let upper = (v.tag + 1) * 16777216 + s.j as u64 * 65536 + s.k as u64;
         return put_to_work(s.top, upper, v.payload, s.b, h, pile);
     }
-    let g = leaf(slots, h.kind, s.b, h.a, h.b);
-    if 5 <= g.tag {
-        return found(g, s.top);
+    let r = leaf(slots, h.kind, s.b, h.a, h.b);
+    if 5 <= r.tag {
+        return found(r, s.top);
     }
-    with_both(s.j, s.k, v, g, s.top)
+    with_both(s.j, s.k, v, r, s.top)
 }
 
 // Does operator j, with its left or only value, look at no right operand? "And, or look at the left value first": it isn't Bool, or decides. Not has no other.
