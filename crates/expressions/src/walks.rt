@@ -1,5 +1,5 @@
 // A walk over an expression without recursion: the operators at work stand in a pile of numbers. An operand that is a leaf gives its value at once, and its operator needs no place
-// for it.
+// for it. The larger functions of a step have one caller each: so the compiler lays the whole step into the loop.
 ghost use mathlib.Core.Path.{_≡_};
 ghost use mathlib.Core.Bool.{true, false};
 ghost use Prim.Native.Nat.{_<_, _≤_};
