@@ -3,17 +3,28 @@
 use crate::contenders::Times;
 
 pub fn heading(title: &str, figures: &[&str], unit: &str) {
+    names(title, figures, &format!(" {:>14} {:>6}", "fast", "ratio"));
+    let pad = 44 + 13 * figures.len();
+    println!("{:<pad$} {unit:>14} {unit:>14} {:>6} {unit:>14}", "", "");
+}
+
+/// Where the fast contender has no part.
+pub fn heading_of_two(title: &str, figures: &[&str], unit: &str) {
+    names(title, figures, "");
+    let pad = 44 + 13 * figures.len();
+    println!("{:<pad$} {unit:>14} {unit:>14}", "");
+}
+
+fn names(title: &str, figures: &[&str], more: &str) {
     println!("\n{title}");
     let mut line = format!("{:<44}", "");
     for figure in figures {
         line += &format!(" {figure:>12}");
     }
     println!(
-        "{line} {:>14} {:>14} {:>6} {:>14} {:>6}",
-        "proved", "Rust", "ratio", "fast", "ratio"
+        "{line} {:>14} {:>14} {:>6}{more}",
+        "proved", "Rust", "ratio"
     );
-    let pad = 44 + 13 * figures.len();
-    println!("{:<pad$} {unit:>14} {unit:>14} {:>6} {unit:>14}", "", "");
 }
 
 pub fn line(name: &str, figures: &[f64], times: Times) {

@@ -3,7 +3,7 @@
 use crate::contenders::{measure, measure_listing, Times};
 use crate::grammars::*;
 use crate::lpeg;
-use crate::print::{heading, line};
+use crate::print::{heading, heading_of_two, line};
 use crate::runs::{run_times, time_with_budget};
 use reader_tests::reference::listing::listing_of;
 use reader_tests::reference::table::{Table, MOST_LITERALS};
@@ -84,7 +84,7 @@ pub fn listings() {
         let answer = contender.write(black_box(&work.words), &work.literals, &mut text);
         black_box(answer);
     });
-    heading("A full listing: R 64, K 1,024, L 4,096", &["bytes"], "µs");
+    heading_of_two("A full listing: R 64, K 1,024, L 4,096", &["bytes"], "µs");
     line("reading", &[listing.len() as f64], read.each(MICRO));
     line("writing", &[listing.len() as f64], write.each(MICRO));
 }

@@ -29,3 +29,4 @@ fails 'what is stored without cases' 'no cases' tests/vectors.sh "$folder"
 rm "$folder"/*
 fails 'no case file' 'no cases' tests/vectors.sh "$folder"
 fails 'a comparison of no case' 'never reached' tests/target/release/library_comparison 0
+fails 'contenders compared on no case' 'never reached' bench/target/release/agree 0

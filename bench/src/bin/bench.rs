@@ -5,7 +5,7 @@ use reader_bench::sections;
 
 fn main() {
     println!("Proved: the proved reader, by its static library. Rust: the independent implementation of tests/, written for reading.");
-    println!("Fast: an interpreter of the same tables in safe Rust, written for speed (bench/src/fast). A ratio is the proved reader's time to that before it.");
+    println!("Fast: an interpreter of the same tables in safe Rust, written for speed (bench/src/fast). Each ratio is the proved reader's time divided by the time to its left.");
     println!("All in release for this processor; they take turns, and of each the least of {ROUNDS} rounds is shown.");
     sections::runs();
     sections::clearing();

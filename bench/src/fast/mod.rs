@@ -1,8 +1,8 @@
-//! A second contender: an interpreter of the same tables in safe Rust, written for speed as one would write it for a display's processor.
+//! The third contender: an interpreter of the same tables in safe Rust, written for speed.
 //!
-//! What it may use is what the proved reader uses: the lent slices, the W words of the work area and a little of the stack. It makes nothing of the table beforehand,
-//! since a display has the same words before it at every message, and it answers to every table, message and budget as document 01 says (`bench/src/bin/agree.rs`).
-//! Unlike the proved reader it recurses over expressions and in the type check.
+//! What it may use is what the proved reader uses: the lent slices, the W words of the work area and the stack. Like the proved reader it is lent the words anew with every
+//! message and checks them, and it answers to every table, message and budget as document 01 says (`bench/src/bin/agree.rs`). Unlike the proved reader it recurses over
+//! expressions and in the type check, as deep as the tables nest.
 
 mod attributes;
 mod checks;

@@ -15,7 +15,7 @@ use Rattle.expressions.specs.declared.walks.Walk.{Walk}
 use Rattle.expressions.specs.declared.walks.Way.{Way}
 use Rattle.expressions.specs.declared.walks.Way.the-variants.{Begins, Found, Left, Both}
 use Rattle.expressions.specs.Given.{given, held, operatorOf, leafOf}
-use Rattle.expressions.specs.Walks.{Asked, left, right, workOf, Filled, withRight, resolved, Goes, beginning, served, resting, turning, walking, inWay, halfway, resultFound, halfFound, hasLeft, hasBoth, looksNoFurther, Seen, Opened, Reached, Passed, Steps}
+use Rattle.expressions.specs.Walks.{Asked, left, right, workOf, Filled, withRight, resolved, Goes, beginning, served, resting, turning, walking, inWay, halfway, resultFound, halfFound, hasLeft, hasBoth, looksNoFurther, Seen, Opened, Reached, PastLeft, Steps}
 use Rattle.expressions.proofs.Nodes.{leaf-gives}
 use Rattle.expressions.proofs.Walking.{as-right, as-first, at-first, at-right, held-given, wants-right, as-left, began-left, began-end, began-work, turned-both, turned-end, turned-work, served-found, popped}
 
@@ -102,7 +102,7 @@ module _ (A : Asked) (pile : List ℕ) (w : Walk) (found : w .begins ≡ false) 
 
 module _ (A : Asked) (pile : List ℕ) (n j k b : ℕ) (v : Given) (filled : Filled (A .levels) pile n) {h : Head} (seen : Seen (A .words) (A .levels) (n + 1) b h) where
   pub right-work : {later : List ℕ} {s : Halfway} → Opened pile n ((v .tag + 1) * 16777216 + j * 65536 + k) (v .payload) b h later s → 20 ≤ h .kind → n < length pile → j < 256 → k < 65536
-      → v .tag < 5 → v .payload < 4294967296 → Passed A (turning A pile n j k b v) later s
+      → v .tag < 5 → v .payload < 4294967296 → PastLeft A (turning A pile n j k b v) later s
   unfolding inWay
   right-work o low fits fj fk isValue fp =
       rw (o .half, o .pile-is) record {
@@ -111,11 +111,11 @@ module _ (A : Asked) (pile : List ℕ) (n j k b : ℕ) (v : Given) (filled : Fil
       }
 
   module _ (g : Given) (same : given g ≡ leafOf (A .slots) (h .kind) b (h .a) (h .b)) (low : h .kind < 20) where
-    pub right-end : {s : Halfway} → s ≡ halfFound g n → 5 ≤ g .tag → Passed A (turning A pile n j k b v) pile s
+    pub right-end : {s : Halfway} → s ≡ halfFound g n → 5 ≤ g .tag → PastLeft A (turning A pile n j k b v) pile s
     unfolding inWay
     right-end e end = rw e record { on = turned-end A pile n filled j k b v g (leaf-gives A seen g same low) end; past = found-apart }
 
-    pub right-both : {s : Halfway} → s ≡ hasBoth j k v g n → g .tag < 5 → Passed A (turning A pile n j k b v) pile s
+    pub right-both : {s : Halfway} → s ≡ hasBoth j k v g n → g .tag < 5 → PastLeft A (turning A pile n j k b v) pile s
     unfolding inWay
     right-both e isValue = rw e record { on = turned-both A pile n filled j k b v g (leaf-gives A seen g same low) isValue; past = both-apart }
 
@@ -123,7 +123,7 @@ module _ (A : Asked) (pile : List ℕ) (n j k b : ℕ) (v : Given) (filled : Fil
 
 module _ (A : Asked) (pile : List ℕ) (n j k b : ℕ) (v : Given) where
   pub left-alone : {s : Halfway} (r : Given) → Filled (A .levels) pile n → s ≡ halfFound r n → given r ≡ resolved A n (workOf j k b) (value (held v))
-      → Passed A (served A pile n (workOf j k b) (value (held v))) pile s
+      → PastLeft A (served A pile n (workOf j k b) (value (held v))) pile s
   unfolding inWay
   left-alone r filled e same = rw e record { on = served-found A pile n filled (workOf j k b) (value (held v)) (given r) same; past = found-apart }
 
@@ -134,13 +134,13 @@ module _ (A : Asked) (pile : List ℕ) (n j k b : ℕ) (v : Given) where
       let wants = wants-right j v off (A .setting .message) (A .setting .literals) k (withRight A (n + 1) k (operatorOf j) b (held v)) in
       rw (as-left j k b (wants .0), ← wants .1)
 
-  pub left-turns : {later : List ℕ} {s : Halfway} → looksNoFurther j v ≡ false → Passed A (turning A pile n j k b v) later s → Passed A (served A pile n (workOf j k b) (value (held v))) later s
+  pub left-turns : {later : List ℕ} {s : Halfway} → looksNoFurther j v ≡ false → PastLeft A (turning A pile n j k b v) later s → PastLeft A (served A pile n (workOf j k b) (value (held v))) later s
   left-turns off p = rw (turns off) p
 
 -- ════ From half to half ════
 
 module _ (A : Asked) (pile : List ℕ) (s : Halfway) (w : Walking (Evaluated Value)) (on : Goes A w (halfway A pile s)) where
-  pub stays : NoLeft (s .way) → Passed A w pile s
+  pub stays : NoLeft (s .way) → PastLeft A w pile s
   stays apart = record { on = on; past = apart }
 
   module _ (is : s .way ≡ Left) where
@@ -149,7 +149,7 @@ module _ (A : Asked) (pile : List ℕ) (s : Halfway) (w : Walking (Evaluated Val
     has-left = rw is
 
     pub left-on : {later : List ℕ} {t : Halfway}
-        → (Filled (A .levels) pile (s .top) → Passed A (served A pile (s .top) (workOf (s .j) (s .k) (s .b)) (value (held (s .v)))) later t) → Passed A w later t
+        → (Filled (A .levels) pile (s .top) → PastLeft A (served A pile (s .top) (workOf (s .j) (s .k) (s .b)) (value (held (s .v)))) later t) → PastLeft A w later t
     left-on then =
         let there = rw has-left at on in
         let p = then (there .piled) in

@@ -209,7 +209,7 @@ pub record Reached (A : Asked) (w : Walking (Evaluated Value)) (later : List ℕ
   pub ready : s .way ≡ Left → (s .v .tag < 5) × (s .top < length later)
 
 -- past the left value
-pub record Passed (A : Asked) (w : Walking (Evaluated Value)) (later : List ℕ) (s : Halfway) : Type 0 where
+pub record PastLeft (A : Asked) (w : Walking (Evaluated Value)) (later : List ℕ) (s : Halfway) : Type 0 where
   pub on : Goes A w (halfway A later s)
   pub past : s .way ≡ Left → ⊥
 
@@ -224,15 +224,15 @@ module _ (pile later : List ℕ) (words slots : List ℕ) (levels : ℕ) where
 
   -- of operator j, node k, which has its left value and wants its right operand b
   abbrev pub WithRight : (n j k b : ℕ) → Given → (s : Halfway) → Type 0
-  WithRight n j k b g s = Filled levels pile n → Read (λ A. Passed A (turning A pile n j k b g) later s)
+  WithRight n j k b g s = Filled levels pile n → Read (λ A. PastLeft A (turning A pile n j k b g) later s)
 
   -- of one that has its left or only value
   abbrev pub WithLeft : (n j k b : ℕ) → Given → (s : Halfway) → Type 0
-  WithLeft n j k b g s = Filled levels pile n → Read (λ A. Passed A (served A pile n (workOf j k b) (value (held g))) later s)
+  WithLeft n j k b g s = Filled levels pile n → Read (λ A. PastLeft A (served A pile n (workOf j k b) (value (held g))) later s)
 
   -- whatever goes to s, goes to t
   abbrev pub Turned : (s t : Halfway) → Type 0
-  Turned s t = Read (λ A. (w : Walking (Evaluated Value)) → Goes A w (halfway A pile s) → Passed A w later t)
+  Turned s t = Read (λ A. (w : Walking (Evaluated Value)) → Goes A w (halfway A pile s) → PastLeft A w later t)
 
 -- of a result that was found, whatever is asked
 abbrev pub Resumed : (pile : List ℕ) (w : Walk) (s : Halfway) → Type 0

@@ -92,7 +92,7 @@ fn found(g: Given, top: usize) -> Halfway
     }
 }
 
-fn with_left(j: u8, k: u16, b: u16, v: Given, top: usize) -> Halfway
+fn has_left(j: u8, k: u16, b: u16, v: Given, top: usize) -> Halfway
     ensures { λ r. ⌜ r ≡ hasLeft j k b v top ⌝ }
 {
     Halfway {
@@ -107,7 +107,7 @@ fn with_left(j: u8, k: u16, b: u16, v: Given, top: usize) -> Halfway
     }
 }
 
-fn with_both(j: u8, k: u16, v: Given, w: Given, top: usize) -> Halfway
+fn has_both(j: u8, k: u16, v: Given, w: Given, top: usize) -> Halfway
     ensures { λ r. ⌜ r ≡ hasBoth j k v w top ⌝ }
 {
     Halfway {
@@ -184,7 +184,7 @@ fn enter(
     if 5 <= g.tag {
         return found(g, w.top);
     }
-    with_left(w.j, w.k, w.b, g, w.top)
+    has_left(w.j, w.k, w.b, g, w.top)
 }
 
 // A value was found, and goes to the operator on top: as its left or only one, or as its right one.
@@ -205,9 +205,9 @@ fn resume(w: Walk, pile: &[u64]) -> Halfway
             tag: t - 1,
             payload: lower,
         };
-        return with_both(j, k, v, g, n);
+        return has_both(j, k, v, g, n);
     }
-    with_left(j, k, (lower % 65536) as u16, g, n)
+    has_left(j, k, (lower % 65536) as u16, g, n)
 }
 
 // Operator j, of node k, has its left value and turns to its right operand, node b: the operator goes to work again, with that value, or has both values at once.
@@ -232,7 +232,7 @@ fn right(
     if 5 <= r.tag {
         return found(r, s.top);
     }
-    with_both(s.j, s.k, v, r, s.top)
+    has_both(s.j, s.k, v, r, s.top)
 }
 
 // Does operator j, with its left or only value, look at no right operand? "And, or look at the left value first": it isn't Bool, or decides. Not has no other.

@@ -29,7 +29,8 @@ recordBound rules nodes q = cond (ltb q rules) nodes (q - rules)
 unfoldable pub recordSort : (rows : List (List ℕ)) (rules q row j : ℕ) → ℕ
 recordSort rows rules q row j = cond (ltb q rules) (getD ruleNumbers j 0) (inRow rows row j)
 
--- the counts after the word w, whose sort in force is n: one use more of node w where such a word uses a node
+-- the counts after the word w, whose sort in force is n: one use more of node w where such a word uses a node; a number from 1,024 on is no
+-- node's, and counts nothing
 unfoldable pub oneMore : (counts : List ℕ) (n w : ℕ) → List ℕ
 oneMore counts n w = cond (isNode n && ltb w 1024) (set counts w (getD counts w 0 + 1)) counts
 

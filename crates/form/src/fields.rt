@@ -44,7 +44,7 @@ fn is_part(words: &[u16], low: u16, high: u16, bound: u16, w: u16) -> bool
     }
 }
 
-// The word w is of the sort in force.
+// The word w is of the sort in force. Any other number of a sort asks for 0, as UNUSED does.
 fn passes(words: &[u16], bound: u16, start: usize, sort: u8, w: u16) -> bool
     requires { ⌜ start < 4294967296 ⌝ }
     ensures { λ result. ⌜ result ≡ Sorts.passes (now (words .entry)) start bound sort w ⌝ }

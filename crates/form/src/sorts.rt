@@ -42,7 +42,7 @@ const RETURNED: u8 = 23;
 
 const RETURNED_TYPE: u8 = 27;
 
-// What such a place is within its count, and what word 0 of a node is.
+// What a place of types is within its count (an argument or returned node is then EXPRESSION, a receiving slot SLOT), and what word 0 of a node is.
 pub const TYPE: u8 = 31;
 
 pub const KIND: u8 = 32;
@@ -125,7 +125,7 @@ fn node_record_sort(rows: &[[u8; 9]; 29], row: u16, j: u16) -> u8
     rows[row as usize][j as usize - 1]
 }
 
-// The sort of word j of record q, rules first and then nodes. Where it is a node this is its row.
+// The sort of word j of record q, rules first and then nodes. `row` is its row if it is a node, and is not looked at for a rule.
 pub(crate) fn record_sort(rows: &[[u8; 9]; 29], rules: u16, q: u16, row: u16, j: u16) -> u8
     requires { ⌜ (row < 29) × (j < Scan.recordLength rules q) ⌝ }
     ensures { λ result. ⌜ result ≡ Scan.recordSort (now (rows .entry)) rules q row j ⌝ }

@@ -19,7 +19,7 @@ fn is_node(sort: u8) -> bool
     }
 }
 
-// One use more of the node w, where a word of this sort in force uses one.
+// One use more of the node w, where a word of this sort in force uses one. A number from 1,024 on is no node's, and counts nothing.
 pub(crate) fn count_use(counts: &mut [u16; 1024], sort: u8, w: u16)
     requires { ⌜ getD (now counts) w 0 < 65535 ⌝ }
     ensures { λ _. ⌜ now (counts .exit) ≡ Scan.oneMore (now (counts .entry)) sort w ⌝ }

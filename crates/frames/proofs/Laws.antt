@@ -11,15 +11,15 @@ use lib.Seq.{set-out, getD-set-same, getD-set-other}
 use borrow.Author.Tests.{lt-ltb, le-ltb}
 use Rattle.grammar.specs.declared.Value.{Value}
 use Rattle.values.specs.Slots.{withSlot}
-use Rattle.frames.specs.Frames.{Taken, placed, copied, cleared, written}
+use Rattle.frames.specs.Frames.{Taken, stored, copied, cleared, written}
 
 pub copied-more : (w : List ℕ) (from to n : ℕ) → copied w from to (n + 1) ≡ set (copied w from to n) (to + n) (getD (copied w from to n) (from + n) 0)
 unfolding copied
 copied-more w from to n = rw add-one
 
-pub placed-more : (w : List ℕ) (to : ℕ) (slots : List ℕ) (n : ℕ) → placed w to slots (n + 1) ≡ set (placed w to slots n) (to + n) (getD slots n 0)
-unfolding placed
-placed-more w to slots n = rw add-one
+pub stored-more : (w : List ℕ) (to : ℕ) (slots : List ℕ) (n : ℕ) → stored w to slots (n + 1) ≡ set (stored w to slots n) (to + n) (getD slots n 0)
+unfolding stored
+stored-more w to slots n = rw add-one
 
 -- one word more is taken
 pub taken-more : (w slots : List ℕ) (from i x : ℕ) → i < length slots → x ≡ getD w (from + i) 0 → ((j : ℕ) → j < i → getD slots j 0 ≡ getD w (from + j) 0)
@@ -33,20 +33,20 @@ taken-more w slots from i x h e before j hj =
     (eq-or-lt-of-le (omega arith))
 
 -- a word that lies outside stays
-placed-other : (w : List ℕ) (to : ℕ) (slots : List ℕ) (n i : ℕ) → (to ≤ i → to + n ≤ i) → getD (placed w to slots n) i 0 ≡ getD w i 0
-unfolding placed
-placed-other w to slots zero i past = refl
-placed-other w to slots (suc n) i past =
+stored-other : (w : List ℕ) (to : ℕ) (slots : List ℕ) (n i : ℕ) → (to ≤ i → to + n ≤ i) → getD (stored w to slots n) i 0 ≡ getD w i 0
+unfolding stored
+stored-other w to slots zero i past = refl
+stored-other w to slots (suc n) i past =
     let other : i ≡ to + n → ⊥ = λ e. absurd (omega (arith, past (omega arith))) in
-    getD-set-other (placed w to slots n) (to + n) i (getD slots n 0) 0 other ∙ placed-other w to slots n i (λ h. omega (arith, past h))
+    getD-set-other (stored w to slots n) (to + n) i (getD slots n 0) 0 other ∙ stored-other w to slots n i (λ h. omega (arith, past h))
 
--- where the ranges lie apart, a copy is what was taken, placed
-pub copied-apart : (w : List ℕ) (from to : ℕ) (slots : List ℕ) → Taken w from slots → 32 ≤ (from - to) + (to - from) → (n : ℕ) → n ≤ 32 → placed w to slots n ≡ copied w from to n
-unfolding placed copied
+-- where the ranges lie apart, a copy is what was taken, stored
+pub copied-apart : (w : List ℕ) (from to : ℕ) (slots : List ℕ) → Taken w from slots → 32 ≤ (from - to) + (to - from) → (n : ℕ) → n ≤ 32 → stored w to slots n ≡ copied w from to n
+unfolding stored copied
 copied-apart w from to slots taken apart zero h = refl
 copied-apart w from to slots taken apart (suc n) h =
     let before = copied-apart w from to slots taken apart n (omega arith) in
-    rw (← before, placed-other w to slots n (from + n) (λ g. omega arith), ← taken .at n (omega arith))
+    rw (← before, stored-other w to slots n (from + n) (λ g. omega arith), ← taken .at n (omega arith))
 
 pub cleared-more : (w : List ℕ) (n : ℕ) → cleared w (n + 1) ≡ set (cleared w n) n 0
 unfolding cleared

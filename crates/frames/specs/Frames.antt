@@ -24,9 +24,9 @@ pub record Taken (w : List ℕ) (from : ℕ) (slots : List ℕ) : Type 0 where
   pub at : (i : ℕ) → i < 32 → getD slots i 0 ≡ getD w (from + i) 0
 
 -- n words of a list, from `to` on
-unfoldable pub placed : List ℕ → (to : ℕ) → List ℕ → ℕ → List ℕ
-placed w to slots zero = w
-placed w to slots (suc n) = set (placed w to slots n) (to + n) (getD slots n 0)
+unfoldable pub stored : List ℕ → (to : ℕ) → List ℕ → ℕ → List ℕ
+stored w to slots zero = w
+stored w to slots (suc n) = set (stored w to slots n) (to + n) (getD slots n 0)
 
 -- the first n words are zero
 unfoldable pub cleared : List ℕ → ℕ → List ℕ

@@ -2,7 +2,7 @@
 ghost use mathlib.Core.Path.{_≡_};
 ghost use Prim.Native.Nat.{_+_, _-_, _≤_, _<_};
 ghost use lib.ListN.{length, getD};
-ghost use Rattle.frames.specs.Frames.{Taken, placed, copied, cleared};
+ghost use Rattle.frames.specs.Frames.{Taken, stored, copied, cleared};
 use values::slots::write_word;
 
 pub(crate) fn get(words: &[u32], i: usize) -> u32
@@ -26,7 +26,7 @@ fn taken(words: &[u32], from: usize) -> [u32; 32]
 // Sixteen slots come to stand from word `to` on.
 fn put(words: &mut [u32], to: usize, slots: [u32; 32])
     requires { ⌜ to + 32 ≤ length (now words) ⌝ }
-    ensures { λ _. ⌜ now (words .exit) ≡ placed (now (words .entry)) to slots 32 ⌝ }
+    ensures { λ _. ⌜ now (words .exit) ≡ stored (now (words .entry)) to slots 32 ⌝ }
 {
     for i in 0..32 {
         words[to + i] = slots[i];

@@ -47,7 +47,7 @@ fn goes_on(budget: u32, run: Run) -> bool
     }
 }
 
-// One step of a run that goes on, or three at once. Nothing else calls `step` or `both_visits`, so that the compiler puts a whole run into one loop.
+// One step of a run that goes on, or three at once. In the library nothing else calls `step` or `both_visits`, so that the compiler puts a whole run into one loop.
 fn stride<'a>(
     words: &[u16],
     literals: &'a [u8],

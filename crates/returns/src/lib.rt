@@ -149,8 +149,8 @@ fn return_call<'a>(
     )
 }
 
-// The part of node k, which is frame d's, has matched: its kind is looked at first, and then only the fields that this kind has. A node without parts
-// has no frame; if one stood there, it would match.
+// The part of node k, which is frame d's, has matched: its kind is looked at first, and then only the fields that this kind has. Every other node
+// matches as its part did: a choice, and a node without parts, which has no frame.
 fn matched_in<'a>(
     words: &[u16],
     literals: &'a [u8],
@@ -174,7 +174,7 @@ fn matched_in<'a>(
     }
 }
 
-// A node without parts has no frame; if one stood there, it would give back the slots too.
+// Every other node gives back the slots and fails: sequence, call, bind, and a node without parts, which has no frame.
 fn failed_in(words: &[u16], k: u16, d: u16, run: Run, work: &mut [u32]) -> Run
     ensures { λ r. ⌜ with r (now (work .exit)) ≡ failedIn (nodeAt (now (words .entry)) k) d run (now (work .entry)) ⌝ }
 {

@@ -1,4 +1,5 @@
-// Where the records of a table lie, and what stands there. Only this module knows it; each function answers every number, 0 past the table's end.
+// Where the records of a table lie, and what stands there. Only this module knows it, and the scan of `form`, which goes over all
+// words; each function answers every number, 0 past the table's end.
 ghost use mathlib.Core.Path.{_≡_};
 ghost use Prim.Native.Nat.{_+_, _*_, _<_, _≤_};
 ghost use Rattle.grammar.specs.Words.{inheritedCount, literalCount, nodeAt, nodeCount, nodeStart, kindAt, nodeWord, returnedCount, ruleCount, ruleStart, ruleWord, word};

@@ -25,7 +25,7 @@ use table::records::inherited_count;
 use table::records::kind_in;
 use table::records::node_place;
 
-// Does the byte stand at a position? Positions are at most 65,535: LONG has refused a longer message.
+// Does the byte stand at a position? Never at 65,535, behind which there is no position: LONG has refused a longer message.
 pub fn byte_stands(message: &[u8], at: u16, byte: u16) -> bool
     ensures { λ r. ⌜ r ≡ (byteStands (now (message .entry)) at byte && ltb at 65535) ⌝ }
 {

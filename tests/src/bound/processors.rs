@@ -97,7 +97,7 @@ pub fn named(name: &str) -> Option<Processor> {
             return_address: 0,
             comment: "//",
             effect: aarch64::effect,
-            // not read here: there the compiler has made one jump to a table
+            // not read: so far the compiler makes one jump for each table there; where it makes more, there is no bound
             reads_table: |_, _| false,
         }),
         _ => None,

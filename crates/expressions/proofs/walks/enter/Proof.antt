@@ -44,11 +44,11 @@ found-requires c κs = search needs
 returns-2 : tie.Need-returns-2
 returns-2 c = λ filled literals message. entered-end (asked (c .before .before .before .before .before .before .before .before .before .before .before .args .words .now) literals message (c .before .before .before .before .before .before .before .before .before .before .before .args .slots .now) (c .before .before .before .before .before .before .before .before .before .before .before .args .levels)) (c .before .before .before .before .before .before .before .before .before .before .before .args .pile .now) (c .before .before .before .before .before .before .before .before .before .before .before .args .w) (c .before .before .before .before .before .before .before .before .before .before .before .pre .1) filled (c .before .before .before .before .before .before .seen .ensures) _ (c .before .before .before .leaf .ensures) (omega arith) (c .found .ensures) (c .before .if2 .taken)
 
-with-left-requires : tie.Need-with-left-requires
-with-left-requires c κs = search needs
+has-left-requires : tie.Need-has-left-requires
+has-left-requires c κs = search needs
 
 returns-3 : tie.Need-returns-3
-returns-3 c = λ filled literals message. entered-left (asked (c .before .before .before .before .before .before .before .before .before .before .before .args .words .now) literals message (c .before .before .before .before .before .before .before .before .before .before .before .args .slots .now) (c .before .before .before .before .before .before .before .before .before .before .before .args .levels)) (c .before .before .before .before .before .before .before .before .before .before .before .args .pile .now) (c .before .before .before .before .before .before .before .before .before .before .before .args .w) (c .before .before .before .before .before .before .before .before .before .before .before .pre .1) filled (c .before .before .before .before .before .before .seen .ensures) _ (c .before .before .before .leaf .ensures) (omega arith) (c .with-left .ensures) (omega arith) (c .before .before .before .before .before .before .before .before .before .before .before .pre .2)
+returns-3 c = λ filled literals message. entered-left (asked (c .before .before .before .before .before .before .before .before .before .before .before .args .words .now) literals message (c .before .before .before .before .before .before .before .before .before .before .before .args .slots .now) (c .before .before .before .before .before .before .before .before .before .before .before .args .levels)) (c .before .before .before .before .before .before .before .before .before .before .before .args .pile .now) (c .before .before .before .before .before .before .before .before .before .before .before .args .w) (c .before .before .before .before .before .before .before .before .before .before .before .pre .1) filled (c .before .before .before .before .before .before .seen .ensures) _ (c .before .before .before .leaf .ensures) (omega arith) (c .has-left .ensures) (omega arith) (c .before .before .before .before .before .before .before .before .before .before .before .pre .2)
 
 pub enter-spec : {M : Type 1} → statement M
 enter-spec =
@@ -67,5 +67,5 @@ enter-spec =
     leaf-requires
     found-requires
     returns-2
-    with-left-requires
+    has-left-requires
     returns-3)

@@ -24,20 +24,20 @@ cast-j c = search needs
 sub-t17 : tie.Need-sub-t17
 sub-t17 c = search needs
 
-with-both-requires : tie.Need-with-both-requires
-with-both-requires c κs = search needs
+has-both-requires : tie.Need-has-both-requires
+has-both-requires c κs = search needs
 
 returns : tie.Need-returns
-returns c = λ A filled. resumed-both A (c .before .before .before .before .before .before .args .pile .now) (c .before .before .before .before .before .before .args .w) (c .before .before .before .before .before .before .pre .0) (c .before .before .before .before .before .before .pre .1) (c .before .before .before .before .before .before .pre .2) filled (c .with-both .ensures) (c .before .if1 .taken)
+returns c = λ A filled. resumed-both A (c .before .before .before .before .before .before .args .pile .now) (c .before .before .before .before .before .before .args .w) (c .before .before .before .before .before .before .pre .0) (c .before .before .before .before .before .before .pre .1) (c .before .before .before .before .before .before .pre .2) filled (c .has-both .ensures) (c .before .if1 .taken)
 
-cast-with-left : tie.Need-cast-with-left
-cast-with-left c = search needs
+cast-has-left : tie.Need-cast-has-left
+cast-has-left c = search needs
 
-with-left-requires : tie.Need-with-left-requires
-with-left-requires c κs = search needs
+has-left-requires : tie.Need-has-left-requires
+has-left-requires c κs = search needs
 
 returns-2 : tie.Need-returns-2
-returns-2 c = λ A filled. resumed-left A (c .before .before .before .before .before .before .args .pile .now) (c .before .before .before .before .before .before .args .w) (c .before .before .before .before .before .before .pre .0) (c .before .before .before .before .before .before .pre .1) (c .before .before .before .before .before .before .pre .2) filled (c .with-left .ensures) (c .before .if1 .left)
+returns-2 c = λ A filled. resumed-left A (c .before .before .before .before .before .before .args .pile .now) (c .before .before .before .before .before .before .args .w) (c .before .before .before .before .before .before .pre .0) (c .before .before .before .before .before .before .pre .1) (c .before .before .before .before .before .before .pre .2) filled (c .has-left .ensures) (c .before .if1 .left)
 
 pub resume-spec : {M : Type 1} → statement M
 resume-spec =
@@ -50,8 +50,8 @@ resume-spec =
     cast-k
     cast-j
     sub-t17
-    with-both-requires
+    has-both-requires
     returns
-    cast-with-left
-    with-left-requires
+    cast-has-left
+    has-left-requires
     returns-2)

@@ -50,11 +50,11 @@ found-requires c κs = search needs
 returns-2 : tie.Need-returns-2
 returns-2 c = λ filled literals message. right-end (asked (c .before .before .before .before .before .before .before .before .before .before .before .before .args .words .now) literals message (c .before .before .before .before .before .before .before .before .before .before .before .before .args .slots .now) (c .before .before .before .before .before .before .before .before .before .before .before .before .args .levels)) (c .before .before .before .before .before .before .before .before .before .before .before .before .args .pile .now) (c .before .before .before .before .before .before .before .before .before .before .before .before .args .s .top) (c .before .before .before .before .before .before .before .before .before .before .before .before .args .s .j) (c .before .before .before .before .before .before .before .before .before .before .before .before .args .s .k) (c .before .before .before .before .before .before .before .before .before .before .before .before .args .s .b) (c .before .before .before .before .before .before .before .before .before .before .before .before .args .s .v) filled (c .before .before .before .before .before .before .seen .ensures) _ (c .before .before .before .leaf .ensures) (omega arith) (c .found .ensures) (c .before .if2 .taken)
 
-with-both-requires : tie.Need-with-both-requires
-with-both-requires c κs = search needs
+has-both-requires : tie.Need-has-both-requires
+has-both-requires c κs = search needs
 
 returns-3 : tie.Need-returns-3
-returns-3 c = λ filled literals message. right-both (asked (c .before .before .before .before .before .before .before .before .before .before .before .before .args .words .now) literals message (c .before .before .before .before .before .before .before .before .before .before .before .before .args .slots .now) (c .before .before .before .before .before .before .before .before .before .before .before .before .args .levels)) (c .before .before .before .before .before .before .before .before .before .before .before .before .args .pile .now) (c .before .before .before .before .before .before .before .before .before .before .before .before .args .s .top) (c .before .before .before .before .before .before .before .before .before .before .before .before .args .s .j) (c .before .before .before .before .before .before .before .before .before .before .before .before .args .s .k) (c .before .before .before .before .before .before .before .before .before .before .before .before .args .s .b) (c .before .before .before .before .before .before .before .before .before .before .before .before .args .s .v) filled (c .before .before .before .before .before .before .seen .ensures) _ (c .before .before .before .leaf .ensures) (omega arith) (c .with-both .ensures) (omega arith)
+returns-3 c = λ filled literals message. right-both (asked (c .before .before .before .before .before .before .before .before .before .before .before .before .args .words .now) literals message (c .before .before .before .before .before .before .before .before .before .before .before .before .args .slots .now) (c .before .before .before .before .before .before .before .before .before .before .before .before .args .levels)) (c .before .before .before .before .before .before .before .before .before .before .before .before .args .pile .now) (c .before .before .before .before .before .before .before .before .before .before .before .before .args .s .top) (c .before .before .before .before .before .before .before .before .before .before .before .before .args .s .j) (c .before .before .before .before .before .before .before .before .before .before .before .before .args .s .k) (c .before .before .before .before .before .before .before .before .before .before .before .before .args .s .b) (c .before .before .before .before .before .before .before .before .before .before .before .before .args .s .v) filled (c .before .before .before .before .before .before .seen .ensures) _ (c .before .before .before .leaf .ensures) (omega arith) (c .has-both .ensures) (omega arith)
 
 pub right-spec : {M : Type 1} → statement M
 right-spec =
@@ -75,5 +75,5 @@ right-spec =
     leaf-requires
     found-requires
     returns-2
-    with-both-requires
+    has-both-requires
     returns-3)

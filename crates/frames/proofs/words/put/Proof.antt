@@ -1,5 +1,5 @@
-use Rattle.frames.proofs.Laws.{placed-more}
-use Rattle.frames.specs.Frames.{placed}
+use Rattle.frames.proofs.Laws.{stored-more}
+use Rattle.frames.specs.Frames.{stored}
 use lib.ListN.{length, length-set}
 use Prim.Native.Nat.{_-_, _≤_, _+_}
 use native.Mathlib.Omega.{arith}
@@ -9,13 +9,13 @@ use Rattle.frames.proofs.words.put.Statement.{statement}
 use Rattle.frames.proofs.words.put.Tie as tie
 
 abbrev Inv-loop : tie.InvT-loop
-Inv-loop words₀ to slots i₀ words i = (i ≤ 32) × (words ≡ placed words₀ to slots i) × (length words ≡ length words₀)
+Inv-loop words₀ to slots i₀ words i = (i ≤ 32) × (words ≡ stored words₀ to slots i) × (length words ≡ length words₀)
 
 abbrev μ-loop : tie.MeasureT-loop
 μ-loop words₀ to slots i₀ words i = 32 - i
 
 loop-holds : tie.Need-loop-holds Inv-loop μ-loop
-unfolding placed
+unfolding stored
 loop-holds c = (omega arith, refl, refl)
 
 mul-words : tie.Need-mul-words Inv-loop μ-loop
@@ -43,7 +43,7 @@ loop-again : tie.Need-loop-again Inv-loop μ-loop
 loop-again c =
     let a = c .before .before .args in
     let o = c .before .loop in
-    (omega arith, cc (placed-more (a .words .now) (a .to) (a .t3) (o .i)), length-set (o .words) (a .to + o .i) _ ∙ o .inv .2)
+    (omega arith, cc (stored-more (a .words .now) (a .to) (a .t3) (o .i)), length-set (o .words) (a .to + o .i) _ ∙ o .inv .2)
 
 same-length : tie.Need-same-length Inv-loop μ-loop
 same-length c = c .before .loop .inv .2
@@ -51,7 +51,7 @@ same-length c = c .before .loop .inv .2
 returns : tie.Need-returns Inv-loop μ-loop
 returns c =
     let a = c .before .before .args in
-    c .before .loop .inv .1 ∙ ap (placed (a .words .now) (a .to) (a .t3)) (omega arith)
+    c .before .loop .inv .1 ∙ ap (stored (a .words .now) (a .to) (a .t3)) (omega arith)
 
 pub put-spec : {M : Type 1} → statement M
 put-spec =
