@@ -28,8 +28,8 @@ fn put(words: &mut [u32], to: usize, slots: [u32; 32])
     requires { ⌜ to + 32 ≤ length (now words) ⌝ }
     ensures { λ _. ⌜ now (words .exit) ≡ stored (now (words .entry)) to slots 32 ⌝ }
 {
-    for i in 0..32 {
-        words[to + i] = slots[i];
+    for j in 0..32 {
+        words[to + j] = slots[j];
     }
 }
 

@@ -9,10 +9,10 @@ use Rattle.frames.proofs.words.put.Statement.{statement}
 use Rattle.frames.proofs.words.put.Tie as tie
 
 abbrev Inv-loop : tie.InvT-loop
-Inv-loop words₀ to slots i₀ words i = (i ≤ 32) × (words ≡ stored words₀ to slots i) × (length words ≡ length words₀)
+Inv-loop words₀ to slots j₀ words j = (j ≤ 32) × (words ≡ stored words₀ to slots j) × (length words ≡ length words₀)
 
 abbrev μ-loop : tie.MeasureT-loop
-μ-loop words₀ to slots i₀ words i = 32 - i
+μ-loop words₀ to slots j₀ words j = 32 - j
 
 loop-holds : tie.Need-loop-holds Inv-loop μ-loop
 unfolding stored
@@ -33,8 +33,8 @@ mul-words-2 c = omega arith
 slice-write-words : tie.Need-slice-write-words Inv-loop μ-loop
 slice-write-words c = omega arith
 
-add-i : tie.Need-add-i Inv-loop μ-loop
-add-i c = omega arith
+add-j : tie.Need-add-j Inv-loop μ-loop
+add-j c = omega arith
 
 loop-less : tie.Need-loop-less Inv-loop μ-loop
 loop-less c = omega arith
@@ -43,7 +43,7 @@ loop-again : tie.Need-loop-again Inv-loop μ-loop
 loop-again c =
     let a = c .before .before .args in
     let o = c .before .loop in
-    (omega arith, cc (stored-more (a .words .now) (a .to) (a .t3) (o .i)), length-set (o .words) (a .to + o .i) _ ∙ o .inv .2)
+    (omega arith, cc (stored-more (a .words .now) (a .to) (a .t3) (o .j)), length-set (o .words) (a .to + o .j) _ ∙ o .inv .2)
 
 same-length : tie.Need-same-length Inv-loop μ-loop
 same-length c = c .before .loop .inv .2
@@ -65,7 +65,7 @@ put-spec =
     add-words
     mul-words-2
     slice-write-words
-    add-i
+    add-j
     loop-less
     loop-again
     same-length
