@@ -15,6 +15,7 @@ pub(crate) fn terminal_first(words: &[u16], k: u16) -> bool
     ensures { λ r. ⌜ r ≡ terminalFirst (now (words .entry)) k ⌝ }
 {
     let place = node_place(words, k);
+    // 3 sequence, 4 choice, 2 terminal
     let kind = kind_in(words, place);
     if kind < 3 {
         return false;
@@ -42,8 +43,8 @@ pub(crate) fn two_left(budget: u32, room: usize, run: Run) -> bool
 }
 
 // The visit of node k, such a sequence or choice, that of its first part, and the return from there. A sequence goes on to its second part where
-// the first has matched, a choice where it has failed; else they do as their part did. (Every kind but 3
-// is taken for a choice: `terminal_first` comes first.)
+// the first has matched, a choice where it has failed; else they do as their part did. (Every kind but 3 is taken for a choice:
+// `terminal_first` comes first.)
 pub(crate) fn both_visits(words: &[u16], message: &[u8], k: u16, run: Run, work: &mut [u32]) -> Run
     requires { ⌜ (run .frames < 255) × (run .visits < 4294967294) ⌝ }
     ensures { λ r. ⌜ with r (now (work .exit)) ≡ bothVisited (now (words .entry)) (now (message .entry)) k run (now (work .entry)) ⌝ }

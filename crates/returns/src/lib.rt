@@ -163,6 +163,7 @@ fn matched_in<'a>(
     ensures { λ r. ⌜ with r (now (work .exit)) ≡ matchedIn (now (words .entry)) (now (literals .entry)) (now (message .entry)) (nodeAt (now (words .entry)) k) d run (now (work .entry)) ⌝ }
 {
     let place = node_place(words, k);
+    // 3 sequence, 5 repeat, 6 not, 7 call, 8 bind
     match kind_in(words, place) {
         3 => sequence_matched(field_in(words, place, 2), d, run, work),
         5 => next_round(field_in(words, place, 1), d, run, work),
@@ -174,11 +175,12 @@ fn matched_in<'a>(
     }
 }
 
-// Every other node gives back the slots and fails: sequence, call, bind, and a node without parts, which has no frame.
+// The same where the part has failed. Every other node gives back the slots and fails: sequence, call, bind, and a node without parts, which has no frame.
 fn failed_in(words: &[u16], k: u16, d: u16, run: Run, work: &mut [u32]) -> Run
     ensures { λ r. ⌜ with r (now (work .exit)) ≡ failedIn (nodeAt (now (words .entry)) k) d run (now (work .entry)) ⌝ }
 {
     let place = node_place(words, k);
+    // 4 choice, 5 repeat, 6 not
     match kind_in(words, place) {
         4 => choice_failed(field_in(words, place, 2), d, run, work),
         5 => repeat_failed(d, run, work),

@@ -146,6 +146,7 @@ fn begin<'a>(
     ensures { λ r. ⌜ with r (now (work .exit)) ≡ begun (now (words .entry)) (now (literals .entry)) (now (message .entry)) (nodeAt (now (words .entry)) k) k run (now (work .entry)) ⌝ }
 {
     let place = node_place(words, k);
+    // 2 terminal, 3 sequence, 4 choice, 5 repeat, 6 not, 7 call, 8 bind, 9 update, 10 constraint
     match kind_in(words, place) {
         2 => consume(message, run, field_in(words, place, 1)),
         3 | 4 | 5 | 6 => open(k, field_in(words, place, 1), run, work),
