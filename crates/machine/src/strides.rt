@@ -1,4 +1,4 @@
-// Several steps at once, where they come to the same: most nodes of a message grammar are sequences and choices whose first part is a terminal.
+// Several steps at once, where they come to the same: of the sequences and choices of a message grammar nearly half begin with a terminal.
 ghost use mathlib.Core.Path.{_≡_};
 ghost use Prim.Native.Nat.{_<_};
 ghost use Rattle.stages.specs.Stages.{with};
