@@ -34,6 +34,7 @@ use Rattle.grammar.proofs.Records.{four-places, rule-right}
 use Rattle.grammar.proofs.Decode.{inherited-types, returned-types}
 use Rattle.grammar.proofs.Typed.{evalAll-good}
 use Rattle.grammar.proofs.Sound.{Sound, sound-matched, sound-failed, sound-ended, sound-out, NotStuck, next-sound, withValue-sound, types-fresh, typed-body, TypedGrammar, apply-sound}
+use Rattle.grammar.proofs.Texts.{texts-there}
 
 -- ════ The type check passes: every rule is typed ════
 
@@ -181,4 +182,5 @@ pub demand-3 : Demand3
 demand-3 = record {
   of-display = λ words literals message budget workLength. display-well-typed words literals message budget workLength;
   of-bench = λ words literals message budget workLength e. bench-well-typed words literals e message budget workLength;
+  of-texts = λ mode words literals message budget workLength. texts-there words literals message mode budget workLength;
 }

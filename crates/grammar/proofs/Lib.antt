@@ -1,4 +1,5 @@
 pub mod Bench
+pub mod Cases
 pub mod Fuel
 pub mod Integers
 pub mod Facts
@@ -7,4 +8,6 @@ pub mod Nodes
 pub mod Decode
 pub mod Typed
 pub mod Sound
+pub mod Held
+pub mod Texts
 pub mod Demand

@@ -1,0 +1,146 @@
+-- Cases beside the bench cases, each computed from the written meaning: the edges of the checks, and a run whose values are Texts. A slip that is made
+-- alike in meaning and code would change them. Assumes nothing.
+use mathlib.Core.Path.{_≡_, refl}
+use mathlib.Core.List.{List, [], _∷_, _++_, map}
+use mathlib.Core.Bool.{Bool, true, false}
+use Prim.Native.Nat.{ℕ}
+use lib.ListN.{length}
+use Rattle.laws.specs.Counting.{tabulate, smallestFailing, howMany}
+use Rattle.laws.specs.Same.{same}
+use Rattle.grammar.specs.declared.Value.{Value}
+use Rattle.grammar.specs.declared.Value.the-variants as Val
+use Rattle.grammar.specs.declared.Mode.{Mode}
+use Rattle.grammar.specs.declared.Mode.the-variants.{Bench, Display}
+use Rattle.grammar.specs.declared.Verdict.{Verdict}
+use Rattle.grammar.specs.declared.Verdict.the-variants.{Passed, Size, Field, Use, Start, Long, Work}
+use Rattle.grammar.specs.Numbers.{DONE}
+use Rattle.grammar.specs.Words.{signed, nodes, nodeFor, nodeAt}
+use Rattle.grammar.specs.Tree.{node, exprOf, parsingOf, exprWith, exprAt, parsingWith, parsingAt, ruleAt, grammarOf}
+use Rattle.grammar.specs.Form as F
+use Rattle.grammar.specs.Types as T
+use Rattle.grammar.specs.Values as L
+use Rattle.grammar.specs.Values.{textBytes}
+use Rattle.grammar.specs.Run as R
+use Rattle.grammar.specs.Answer as A
+use Rattle.grammar.specs.Answer.{check, typeCheck, answered, answer}
+use Rattle.grammar.proofs.Bench.{records, body, returning, empty, terminal, sequence, bind, constraint, integer, bool, slot, equal, tableA}
+
+-- ════ Tables ════
+
+-- a table from its rules' records, its nodes' records and the number of its literal bytes
+abbrev tableOf : List (List ℕ) → List (List ℕ) → ℕ → List ℕ
+tableOf rules ns literalBytes = (length rules ∷ length ns ∷ literalBytes ∷ []) ++ (records 15 rules ++ records 10 ns)
+
+-- a rule that inherits an Integer
+abbrev inheriting : ℕ → List ℕ
+inheriting b = b ∷ 1 ∷ 2 ∷ []
+
+abbrev textual : ℕ → ℕ → List ℕ
+textual start size = 18 ∷ start ∷ size ∷ []
+
+-- a call of rule 1 with an argument
+abbrev calling : ℕ → List ℕ
+calling argument = 7 ∷ 1 ∷ argument ∷ []
+
+-- empty, returning a Text of two literal bytes. Its node record begins at word 28: start at 29, length at 30
+abbrev literalAt : ℕ → ℕ → List ℕ
+literalAt start size = tableOf (returning 0 1 3 ∷ []) (empty ∷ textual start size ∷ []) 2
+
+-- rule 0 calls rule 1 with node 0
+abbrev called : List ℕ
+called = tableOf (body 1 ∷ inheriting 2 ∷ []) (integer 0 7 ∷ calling 0 ∷ empty ∷ []) 0
+
+-- the same, and the argument is a constraint's operand too
+abbrev calledTwice : List ℕ
+calledTwice = tableOf (body 3 ∷ inheriting 4 ∷ []) (bool 1 ∷ calling 0 ∷ constraint 0 ∷ sequence 1 2 ∷ empty ∷ []) 0
+
+-- node 0 is used by both parts of node 1, and once more by node 2
+abbrev usedThrice : List ℕ
+usedThrice = tableOf (body 2 ∷ []) (empty ∷ sequence 0 0 ∷ sequence 1 0 ∷ []) 0
+
+-- node 1 is used by nothing
+abbrev unused : List ℕ
+unused = tableOf (body 0 ∷ []) (empty ∷ empty ∷ []) 0
+
+-- two refusals at once: rule 0 inherits, and node 1 is used by nothing
+abbrev inheritsToo : List ℕ
+inheritsToo = tableOf (inheriting 0 ∷ []) (empty ∷ empty ∷ []) 0
+
+-- ════ The cases ════
+
+pub record Case : Type 0 where
+  pub mode : Mode
+  pub words : List ℕ
+  pub literals : List ℕ
+  pub messageLength : ℕ
+  pub workLength : ℕ
+  pub expected : Verdict
+
+pub given : Case → Verdict
+given c = check (c .mode) (c .words) (c .literals) (c .messageLength) (c .workLength)
+
+-- a bench run of a table, of a message of no bytes, in a work area of W words
+abbrev table-gives : List ℕ → List ℕ → Verdict → Case
+table-gives words literals v = record { mode = Bench; words = words; literals = literals; messageLength = 0; workLength = 9760; expected = v }
+
+-- a display run of case A's table, of a message and in a work area of these lengths
+abbrev lengths-give : (messageLength workLength : ℕ) → Verdict → Case
+lengths-give messageLength workLength v =
+    record { mode = Display; words = tableA; literals = []; messageLength = messageLength; workLength = workLength; expected = v }
+
+abbrev two : List ℕ
+two = 97 ∷ 98 ∷ []
+
+pub cases : List Case
+cases =
+    lengths-give 65535 9760 Passed  -- 'message over 65,535 bytes'
+    ∷ lengths-give 65536 9760 Long
+    ∷ lengths-give 65535 9759 Work  -- 'work area under W words'
+    ∷ lengths-give 65536 9759 Long  -- '6, 7'
+    ∷ table-gives (literalAt 0 2) two Passed  -- 'Text (start, length in the literals, end at most L)'
+    ∷ table-gives (literalAt 2 0) two Passed
+    ∷ table-gives (literalAt 3 0) two (Field 29)  -- 'a start over L is the bad word; else an end over L makes the length the bad word'
+    ∷ table-gives (literalAt 2 1) two (Field 30)
+    ∷ table-gives (literalAt 0 3) two (Field 30)
+    ∷ table-gives (literalAt 0 2) [] Size  -- 'literal bytes not L'
+    ∷ table-gives called [] Passed  -- 'Each node is used exactly once: as a part, an argument, a body or a returned node'
+    ∷ table-gives calledTwice [] (Use 0)
+    ∷ table-gives usedThrice [] (Use 0)
+    ∷ table-gives unused [] (Use 1)
+    ∷ table-gives inheritsToo [] (Use 1)  -- '3, 4'
+    ∷ table-gives (tableOf (inheriting 0 ∷ []) (empty ∷ []) 0) [] Start
+    ∷ []
+
+pub edges : map given cases ≡ map (λ (c : Case). c .expected) cases
+unfolding given cases tableA tabulate smallestFailing howMany signed nodes nodeFor nodeAt exprOf parsingOf exprWith exprAt parsingWith parsingAt ruleAt grammarOf F.fieldSorts F.fieldSort F.ruleSorts F.fits F.ruleWordOk F.nodeWordOk F.wordOk F.usesNode F.wordUses F.uses F.every F.sizeOk F.tableCheck same T.operatorType T.exprType T.has T.haveAll T.assign T.assignAll T.typeOf T.typedAfter T.typedRule T.untyped A.typeRules typeCheck check
+edges = refl
+
+-- ════ Texts ════
+
+-- 'a' x='b', returning x, a Text literal of the same byte, whether the two are equal, and whether x equals another literal
+pub textsTable : List ℕ
+textsTable = tableOf ((3 ∷ 0 ∷ 0 ∷ 0 ∷ 0 ∷ 0 ∷ 4 ∷ 4 ∷ 5 ∷ 8 ∷ 11 ∷ 3 ∷ 3 ∷ 1 ∷ 1 ∷ []) ∷ [])
+    (terminal 97 ∷ terminal 98 ∷ bind 0 1 ∷ sequence 0 2
+    ∷ slot 0
+    ∷ textual 1 1
+    ∷ slot 0 ∷ textual 1 1 ∷ equal 6 7
+    ∷ slot 0 ∷ textual 0 1 ∷ equal 9 10 ∷ []) 2
+
+-- the message "abc", and the literals "zb"
+abbrev abc : List ℕ
+abc = 97 ∷ 98 ∷ 99 ∷ []
+
+abbrev zb : List ℕ
+zb = 122 ∷ 98 ∷ []
+
+abbrev part : Bool → ℕ → ℕ → Value
+part literal start size = Val.Text (record { literal = literal; start = start; length = size })
+
+pub texts : answer Display textsTable zb abc 9 9760 ≡ answered DONE 0 2 4 (part false 1 1 ∷ part true 1 1 ∷ Val.Bool true ∷ Val.Bool false ∷ [])
+unfolding textsTable tabulate smallestFailing howMany signed nodes nodeFor nodeAt node exprOf parsingOf exprWith exprAt parsingWith parsingAt ruleAt grammarOf F.fieldSorts F.fieldSort F.ruleSorts F.fits F.ruleWordOk F.nodeWordOk F.wordOk F.usesNode F.wordUses F.uses F.every F.sizeOk F.tableCheck same T.operatorType T.exprType T.has T.haveAll T.assign T.assignAll T.typeOf T.typedAfter T.typedRule T.untyped L.spanBytes L.sameTexts L.equal L.lookLeft L.operate R.eval R.evalAll R.next R.withValue R.fresh R.byteStands R.due R.returning R.visit R.admit R.apply A.typeRules typeCheck check A.run A.answerOf A.conclude answer
+texts = refl
+
+-- their bytes
+pub texts-bytes : map (textBytes abc zb) (part false 1 1 ∷ part true 0 2 ∷ part false 1 3 ∷ part true 2 1 ∷ part true 2 0 ∷ []) ≡ (98 ∷ []) ∷ zb ∷ [] ∷ [] ∷ [] ∷ []
+unfolding L.spanBytes textBytes
+texts-bytes = refl
