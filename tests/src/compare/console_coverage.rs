@@ -9,7 +9,8 @@ pub struct ConsoleCoverage {
     values: [u64; 5],
 }
 
-/// What a console can answer: tests/READINGS.md says why the others never come.
+/// What a console can answer: docs/DECISIONS.md says why the others never come
+/// (reading 42).
 const QUESTIONS: [Question; 3] = [
     ("no run", &[LINE, INPUT]),
     (
