@@ -78,7 +78,7 @@ pointers() {
             if (name ~ /\//) path(name)
             else if ($2 ~ /^(test|where)$/ && name ~ /^(table|typing|runs|listing)$/) { vectors = name; group_due = $2 == "test" && !every }
             else if ($2 ~ /^(test|where)$/ && name == "console") within("console", "")
-            else if (name ~ /^[A-Za-z][A-Za-z0-9_*-]*$/) {
+            else if (name ~ /^[A-Za-z][^ =]*$/) {
                 if (said in is_crate) within(programs ? "edit" : $2 == "no file" ? $2 : "function", said (programs ? "/must-fail/code" : ""))
                 if (kind != "") point(kind, place, name)
                 else if ($2 != "where") point("unread", "", name)
@@ -171,7 +171,7 @@ wrong() { # KIND PLACE NAME
         case) [[ ${cases[$2]} == *$'\n'"both $3: "* ]] || said="$2 has no case $3" ;;
         group) [[ ${headlines[$2]}${cases[$2]} == *"$3"* ]] || said="$2 has no group and no case \"$3\"" ;;
         sentence) [[ ${headlines[$2]} == *"$(cut -d ' ' -f 1-4 <<<"$3")"* ]] || said="$2 has no group \"$3\"" ;;
-        *) said="can't be read: $3" ;;
+        *) said="$3 stands in none of the forms that the page's head has" ;;
     esac
 }
 

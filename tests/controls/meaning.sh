@@ -32,7 +32,7 @@ renamed 'a sentence without a group' 'typing has no group "Constraints: Bool"' '
 renamed 'a console input that is not there' 'tests/console/line-99-*.console is not there' 's/`line-11-\*`/`line-99-*`/'
 renamed 'a file that is not there' 'examples/destinations is not there' 's|`examples/destination`|`examples/destinations`|'
 renamed 'a test that is not there' 'the_most_nodes is not in tests/tests/bench_cases.rs' 's/`the_most_rules`/`the_most_nodes`/'
-renamed 'a name in no form' "can't be read: sizeOk" 's/Form: `sizeOk`/`sizeOk`/'
+renamed 'a name in no form' 'sizeOk stands in none of the forms' 's/Form: `sizeOk`/`sizeOk`/'
 renamed 'no table' 'nothing of this kind was found' '/^\|/d'
 renamed 'empty' 'nothing of this kind was found' d
 
