@@ -3,3 +3,4 @@ pub mod Reading
 pub mod Tables
 pub mod Lengths
 pub mod Responding
+pub mod Exactly

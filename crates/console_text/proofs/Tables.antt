@@ -5,15 +5,18 @@ use Prim.Native.Nat.{ℕ, _+_, _*_, _≤_}
 use native.Mathlib.Omega.{arith}
 use lib.ListN.{length, drop, length-append, length-drop}
 use borrow.Author.Tests.{le-ltb}
+use Rattle.laws.specs.Below.{AllBelow}
+use Rattle.laws.specs.Parts.{Stands, stands-then}
 use Rattle.laws.specs.Stores.{sets-front, over}
 use Rattle.grammar.specs.declared.Mode.{Mode}
 use Rattle.text.specs.declared.Place.{Place}
 use Rattle.text.specs.declared.Place.the-variants as P
 use Rattle.text.specs.declared.Bytes.{Bytes}
 use Rattle.text.specs.declared.Bytes.the-variants as B
-use Rattle.text.specs.Stored.{Took, taking}
+use Rattle.text.specs.Stored.{Took, Taken, taking}
 use Rattle.text.specs.Found.{onPlace, pairs}
 use Rattle.text.specs.Written.{hex}
+use Rattle.text.proofs.Keys.{key-stands}
 use Rattle.text.proofs.Pairs.{pairs-stand, hex-length}
 use Rattle.listing.specs.declared.reader.Lines.{Lines}
 use Rattle.listing.specs.declared.reader.Lines.the-variants as L
@@ -24,6 +27,7 @@ use Rattle.listing.specs.declared.Reading.the-variants.{Done, Line, Room}
 use Rattle.listing.specs.Reading.{keyAt, onHead, onLines, headAt, bodyAt, Filled, filled, fill, refused, readRest, readFrom}
 use Rattle.listing.proofs.Whole.{head-found}
 use Rattle.console_text.specs.Asked.{messageKey, Said, says, wrongLine, onSaid, Table, bodySaid, tableAt, messageAt, fromFourth}
+use Rattle.console_text.specs.Plain.{messageSpelt}
 use Rattle.console_text.specs.Console.{longestInput}
 use Rattle.console_text.specs.declared.request.Request.the-variants as R
 use Rattle.console_text.specs.Lent.{messageBytes, tableWords, tableLiterals, Readied, readied, ready}
@@ -59,23 +63,29 @@ module _ (input : List ℕ) (p : ℕ) (words literals : List ℕ) (h : tableWord
 
 -- ════ The message ════
 
-pub record Message-stands (input : List ℕ) (p n : ℕ) : Type 0 where
-  pub count : n ≡ length (messageAt input p .numbers)
+pub record Message-stands (input : List ℕ) (p n q : ℕ) (message : List ℕ) : Type 0 where
+  pub count : n ≡ length message
   pub most : 2 * n ≤ length input
+  pub part : Stands input p (messageSpelt message) q
+  pub all : AllBelow 256 message
 
-pub message-found : (input : List ℕ) (p n q : ℕ) → messageAt input p .found ≡ B.Are n q → Message-stands input p n
+pub message-found : (input : List ℕ) (p n q : ℕ) → messageAt input p .found ≡ B.Are n q → Message-stands input p n q (messageAt input p .numbers)
 unfolding messageAt
 message-found input p n q = keys (keyAt input messageKey p) refl
   where
-    keys : (s : Place) → keyAt input messageKey p ≡ s → onPlace (taking [] B.Wrong) (λ a. pairs 0 a (drop a input)) s .found ≡ B.Are n q → Message-stands input p n
+    at : Place → Taken Bytes
+    at s = onPlace (taking [] B.Wrong) (λ a. pairs 0 a (drop a input)) s
+
+    keys : (s : Place) → keyAt input messageKey p ≡ s → at s .found ≡ B.Are n q → Message-stands input p n q (at s .numbers)
     keys (P.At a) f e =
         let w = pairs-stand input a n q e in
         let bytes : List ℕ = pairs 0 a (drop a input) .numbers in
-        let i : messageAt input p .numbers ≡ bytes = rw f in
         let j : length (drop a input) ≡ length ((hex bytes ++ (10 ∷ [])) ++ drop q input) = ap length (w .part .is) in
         record {
-          count = w .count ∙ sym (ap length i);
+          count = w .count;
           most = omega (arith, w .count, simp (length-drop, length-append, hex-length) at j);
+          part = stands-then (key-stands input messageKey p a f) (w .part);
+          all = w .all;
         }
     keys P.Wrong f e = let z : _≡_ {A = ℕ} 0 1 = cc in absurd (omega arith)
 

@@ -37,7 +37,7 @@ pub record Right (a : Asked) : Type 0 where
   pub message-fits : AllBelow 256 (a .message)
   pub table : Listing.Table (a .table .words) (a .table .literals)
 
--- an input is accepted exactly where it is spelt so
+-- an input is accepted exactly where it is spelt so: proofs/Exactly.antt proves it
 abbrev pub AcceptedExactly : Type 0
 AcceptedExactly = (input : List ℕ) (a : Asked) → (said input ≡ says a) ↔ (Right a × (input ≡ spelt a))
 
