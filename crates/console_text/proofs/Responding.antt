@@ -1,18 +1,19 @@
 -- The whole answer on lent slices: what the parts leave is what Lent.antt says. Assumes nothing.
 use mathlib.Core.Path.{_≡_, refl, sym, ap, _∙_}
 use mathlib.Core.List.{List, []}
-use mathlib.Core.Bool.{true, false}
+use mathlib.Core.Bool.{Bool, true, false, cond}
 use Prim.Native.Nat.{ℕ, _≤_, _<_}
 use native.Mathlib.Omega.{arith}
-use lib.Dec.{leb}
+use lib.Dec.{ltb, leb}
 use lib.ListN.{length, take, drop, length-take, length-append}
 use lib.Seq.{take-append-seam}
-use borrow.Author.Tests.{lt-ltb, le-ltb, le-leb, leb-true}
+use borrow.Author.Tests.{lt-ltb, le-ltb, le-leb, lt-leb, leb-true}
 use Rattle.laws.specs.Stores.{sets-front, over}
 use Rattle.grammar.specs.declared.Mode.{Mode}
 use Rattle.grammar.specs.Form.{every}
 use Rattle.grammar.specs.Answer.{answer, workAfter, workWords, check}
 use Rattle.text.specs.Stored.{Wrote}
+use Rattle.text.specs.Written.{decimal, digits}
 use Rattle.text.proofs.Writing.{wrote-as}
 use Rattle.laws.specs.Tests.{both}
 use Rattle.console_text.specs.declared.Response.the-variants.{Written, Short}
@@ -21,7 +22,7 @@ use Rattle.console_text.specs.declared.request.Request.the-variants as R
 use Rattle.console_text.specs.Asked.{Said, says, wrongLine, onSaid, Asked, said}
 use Rattle.console_text.specs.Printed.{answerKey, numberLine, answerLines}
 use Rattle.console_text.specs.Console.{INPUT, longestInput, answerTo, lineRecord, ConsoleAnswer, tooLong, wrongAt, ran, consoleAnswer, printed, consoleText}
-use Rattle.console_text.specs.Lent.{messageBytes, tableWords, tableLiterals, outputBytes, Lent, lent, Roomy, enough, Readied, readied, ready, responded, afterwards, respond}
+use Rattle.console_text.specs.Lent.{messageBytes, tableWords, tableLiterals, outputBytes, inputLineBytes, Lent, lent, Roomy, enough, roomFor, Readied, readied, ready, responded, afterwards, respond}
 use Rattle.console_text.proofs.Lengths.{text-most}
 
 -- ════ Room ════
@@ -104,47 +105,73 @@ counted (wrongLine x) message words literals e mode budget m n l f =
     absurd (omega arith)
 
 -- the whole text, stored from the output's start on
-module _ (input output : List ℕ) (h : outputBytes ≤ length output) {r : ℕ} {output′ : List ℕ} (w : Wrote output 0 (consoleText input) r output′) where
+module _ (input output : List ℕ) (h : length (consoleText input) ≤ length output) {r : ℕ} {output′ : List ℕ} (w : Wrote output 0 (consoleText input) r output′) where
   count-is : r ≡ length (consoleText input)
   count-is = omega (arith, w .next-is, text-most input)
 
   output-is : output′ ≡ over (consoleText input) output
-  output-is = w .stored ∙ sets-front output (consoleText input) (omega (arith, text-most input))
+  output-is = w .stored ∙ sets-front output (consoleText input) h
 
 module _ (input message words literals work output : List ℕ) where
-  pub respond-short : enough (length message) (length words) (length literals) (length work) (length output) ≡ false
+  -- ════ A slice is too short ════
+
+  too-short : roomFor input (lent message words literals work output) ≡ false
       → responded Short (lent message words literals work output) ≡ respond input (lent message words literals work output)
   unfolding respond
-  respond-short e = rw e
+  too-short e = rw e
+
+  -- for INPUT's line, and so for any other text
+  pub respond-none : length output < inputLineBytes → responded Short (lent message words literals work output) ≡ respond input (lent message words literals work output)
+  unfolding roomFor
+  respond-none h = too-short (go (ltb longestInput (length input)) (enough (length message) (length words) (length literals) (length work) (length output)) refl)
+    where
+      go : (t u : Bool) → enough (length message) (length words) (length literals) (length work) (length output) ≡ u
+          → cond t (leb inputLineBytes (length output)) u ≡ false
+      go true u e = lt-leb inputLineBytes (length output) h
+      go false true e = absurd (omega (arith, enough-facts (length message) (length words) (length literals) (length work) (length output) e .for-output))
+      go false false e = refl
+
+  pub respond-short : length input ≤ longestInput → enough (length message) (length words) (length literals) (length work) (length output) ≡ false
+      → responded Short (lent message words literals work output) ≡ respond input (lent message words literals work output)
+  unfolding roomFor
+  respond-short h e = too-short (rw (le-ltb longestInput (length input) h, e))
+
+  -- ════ The text is written ════
+
+  -- the text was stored, and the other slices hold what Lent.antt says
+  finish : {r : ℕ} {message′ words′ literals′ work′ output′ : List ℕ} (x : ConsoleAnswer) → roomFor input (lent message words literals work output) ≡ true
+      → length (consoleText input) ≤ length output → consoleAnswer input ≡ x → Wrote output 0 (printed x) r output′
+      → lent message′ words′ literals′ work′ (over (consoleText input) output) ≡ afterwards x (consoleText input) (lent message words literals work output)
+      → responded (Written r) (lent message′ words′ literals′ work′ output′) ≡ respond input (lent message words literals work output)
+  unfolding respond consoleText
+  finish {r} {message′} {words′} {literals′} {work′} {output′} x room fits e w f =
+      let text : List ℕ = consoleText input in
+      let v : Wrote output 0 text r output′ = wrote-as (ap printed (sym e)) w in
+      rw room
+      (ap (λ (z : ℕ). responded (Written z) (lent message′ words′ literals′ work′ output′)) (count-is input output fits v)
+      ∙ ap (λ (z : List ℕ). responded (Written (length text)) (lent message′ words′ literals′ work′ z)) (output-is input output fits v)
+      ∙ ap (responded (Written (length text))) (f ∙ ap (λ (z : ConsoleAnswer). afterwards z text (lent message words literals work output)) (sym e)))
+
+  pub respond-input : {r : ℕ} {output′ : List ℕ} → inputLineBytes ≤ length output → longestInput < length input → Wrote output 0 (numberLine answerKey INPUT) r output′
+      → responded (Written r) (lent message words literals work output′) ≡ respond input (lent message words literals work output)
+  unfolding roomFor consoleText consoleAnswer printed afterwards numberLine decimal digits
+  respond-input {r} {output′} g h w =
+      let long : ltb longestInput (length input) ≡ true = lt-ltb longestInput (length input) h in
+      let is : consoleAnswer input ≡ tooLong = rw long in
+      let fits : length (consoleText input) ≤ length output = rw is g in
+      finish tooLong (rw (long, le-leb inputLineBytes (length output) g)) fits is w refl
 
   module _ (room : Roomy (length message) (length words) (length literals) (length work) (length output)) where
-    -- what is left to be shown where there is room
-    respond-room : respond input (lent message words literals work output)
-        ≡ responded (Written (length (consoleText input))) (afterwards (consoleAnswer input) (consoleText input) (lent message words literals work output))
-    unfolding respond
-    respond-room = rw (enough-right (length message) (length words) (length literals) (length work) (length output) room)
-
-    -- the text was stored, and the other slices hold what Lent.antt says
-    finish : {r : ℕ} {message′ words′ literals′ work′ output′ : List ℕ} (x : ConsoleAnswer) → consoleAnswer input ≡ x → Wrote output 0 (printed x) r output′
-        → lent message′ words′ literals′ work′ (over (consoleText input) output) ≡ afterwards x (consoleText input) (lent message words literals work output)
-        → responded (Written r) (lent message′ words′ literals′ work′ output′) ≡ respond input (lent message words literals work output)
-    unfolding consoleText
-    finish {r} {message′} {words′} {literals′} {work′} {output′} x e w f =
-        let text : List ℕ = consoleText input in
-        let v : Wrote output 0 text r output′ = wrote-as (ap printed (sym e)) w in
-        ap (λ (z : ℕ). responded (Written z) (lent message′ words′ literals′ work′ output′)) (count-is input output (room .for-output) v)
-        ∙ ap (λ (z : List ℕ). responded (Written (length text)) (lent message′ words′ literals′ work′ z)) (output-is input output (room .for-output) v)
-        ∙ ap (responded (Written (length text))) (f ∙ ap (λ (z : ConsoleAnswer). afterwards z text (lent message words literals work output)) (sym e))
-        ∙ sym respond-room
-
-    pub respond-input : {r : ℕ} {output′ : List ℕ} → longestInput < length input → Wrote output 0 (numberLine answerKey INPUT) r output′
-        → responded (Written r) (lent message words literals work output′) ≡ respond input (lent message words literals work output)
-    unfolding consoleAnswer printed afterwards
-    respond-input h w = finish tooLong (rw (lt-ltb longestInput (length input) h)) w refl
-
     module _ (h : length input ≤ longestInput) {request : Request} {message′ words′ literals′ : List ℕ}
         (e : readied request message′ words′ literals′ ≡ ready (said input) message words literals)
       where
+        room-for : roomFor input (lent message words literals work output) ≡ true
+        unfolding roomFor
+        room-for = rw (le-ltb longestInput (length input) h) (enough-right (length message) (length words) (length literals) (length work) (length output) room)
+
+        fits : length (consoleText input) ≤ length output
+        fits = omega (arith, text-most input, room .for-output)
+
         consoled : (s : Said Asked) → said input ≡ s → consoleAnswer input ≡ onSaid wrongAt (λ a. ran a (answerTo a)) s
         unfolding consoleAnswer
         consoled s f = rw (le-ltb longestInput (length input) h, f)
@@ -164,7 +191,7 @@ module _ (input message words literals work output : List ℕ) where
             go (wrongLine x) g k =
                 let b : R.Line n ≡ R.Line x = sym f ∙ ap (λ (z : Readied). z .request) k in
                 let d : n ≡ x = cc in
-                finish (wrongAt x) (consoled (wrongLine x) g) (wrote-as (ap (λ (z : ℕ). answerLines [] [] (lineRecord z)) d) w)
+                finish (wrongAt x) room-for fits (consoled (wrongLine x) g) (wrote-as (ap (λ (z : ℕ). answerLines [] [] (lineRecord z)) d) w)
                 (ap (λ (z : Readied). lent (z .message) (z .words) (z .literals) work (over (consoleText input) output)) k)
 
         pub respond-run : {r : ℕ} {work′ output′ : List ℕ} (mode : Mode) (budget m n l : ℕ) → request ≡ R.Run mode budget m n l
@@ -189,7 +216,7 @@ module _ (input message words literals work output : List ℕ) where
                 let literals-are : take l literals′ ≡ a .table .literals = ap (λ (z : Readied). take l (z .literals)) k ∙ take-front (a .table .literals) literals l p in
                 let v = rw (message-is, words-are, literals-are, c, d) at w in
                 let x = rw (message-is, words-are, literals-are, c) at u in
-                finish (ran a (answerTo a)) (consoled (says a) g) (rw (answer-room (a .mode) (a .table .words) (a .table .literals) (a .message) (a .budget) (length work) (room .for-work)) at v)
+                finish (ran a (answerTo a)) room-for fits (consoled (says a) g) (rw (answer-room (a .mode) (a .table .words) (a .table .literals) (a .message) (a .budget) (length work) (room .for-work)) at v)
                 (ap (λ (z : Readied). lent (z .message) (z .words) (z .literals) work′ (over (consoleText input) output)) k
                 ∙ ap (λ (z : List ℕ). lent (over (a .message) message) (over (a .table .words) words) (over (a .table .literals) literals) z (over (consoleText input) output)) x)
             go (wrongLine x) g k =

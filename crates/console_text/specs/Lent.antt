@@ -2,7 +2,7 @@
 use mathlib.Core.List.{List, [], _∷_}
 use mathlib.Core.Bool.{Bool, cond}
 use Prim.Native.Nat.{ℕ, _≤_}
-use lib.Dec.{leb}
+use lib.Dec.{ltb, leb}
 use lib.ListN.{length}
 use Rattle.laws.specs.Stores.{over}
 use Rattle.grammar.specs.Form.{every}
@@ -12,7 +12,7 @@ use Rattle.console_text.specs.declared.Response.the-variants.{Written, S
 use Rattle.console_text.specs.declared.request.Request.{Request}
 use Rattle.console_text.specs.declared.request.Request.the-variants as R
 use Rattle.console_text.specs.Asked.{Said, says, wrongLine, Asked}
-use Rattle.console_text.specs.Console.{ConsoleAnswer, tooLong, wrongAt, ran, consoleAnswer, consoleText}
+use Rattle.console_text.specs.Console.{longestInput, ConsoleAnswer, tooLong, wrongAt, ran, consoleAnswer, consoleText}
 
 -- ════ Room for every input ════
 
@@ -30,6 +30,10 @@ tableLiterals = 4096
 -- four lines of a number, with at most ten digits; four Texts of at most 32,768 bytes in hex, each in a line with `value=3 `
 abbrev pub outputBytes : ℕ
 outputBytes = 262253
+
+-- `answer=23` and byte 10: the line that INPUT prints
+abbrev pub inputLineBytes : ℕ
+inputLineBytes = 10
 
 pub record Lent : Type 0 where
   pub message : List ℕ
@@ -61,6 +65,13 @@ enough message words literals work output =
     ∷ leb outputBytes output
     ∷ []
     )
+
+-- is there room for what is answered to this input? 'INPUT comes before all else', and wants room for its own line alone; every other answer has room
+-- where every input has
+unfoldable pub roomFor : (input : List ℕ) → Lent → Bool
+roomFor input l =
+    cond (ltb longestInput (length input)) (leb inputLineBytes (length (l .output)))
+    (enough (length (l .message)) (length (l .words)) (length (l .literals)) (length (l .work)) (length (l .output)))
 
 -- ════ The request ════
 
@@ -99,9 +110,9 @@ afterwards (ran a r) text l =
     lent (over (a .message) (l .message)) (over (a .table .words) (l .words)) (over (a .table .literals) (l .literals))
     (workAfter (a .mode) (a .table .words) (a .table .literals) (a .message) (l .work)) (over text (l .output))
 
--- the text stands in the output from its start on, and its length is told; a slice that is too short is told before all else, and then nothing changes
+-- the text stands in the output from its start on, and its length is told; a slice that is too short is told before any text, and then nothing changes
 unfoldable pub respond : (input : List ℕ) → Lent → Responded
 respond input l =
-    cond (enough (length (l .message)) (length (l .words)) (length (l .literals)) (length (l .work)) (length (l .output)))
+    cond (roomFor input l)
     (responded (Written (length (consoleText input))) (afterwards (consoleAnswer input) (consoleText input) l))
     (responded Short l)

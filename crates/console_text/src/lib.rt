@@ -18,7 +18,7 @@ use grammar::Answer;
 use grammar::Mode;
 use grammar::Value;
 
-// How many bytes of the output were written; or a lent slice is too short for what an input can ask.
+// How many bytes of the output were written; or a lent slice is too short: for INPUT's one line, or else for what an input can ask.
 pub enum Response {
     Written(usize),
     Short,
@@ -123,7 +123,8 @@ fn answer_lines(
     }
 }
 
-// The console's answer to an input, in the slices that the caller lends: the text to be written stands in the output from its start on.
+// The console's answer to an input, in the slices that the caller lends: the text to be written stands in the output from its start on. INPUT wants ten bytes of the
+// output and looks at no other slice; every other answer wants slices that have room for every input.
 pub fn respond(
     input: &[u8],
     message: &mut [u8],
@@ -134,6 +135,14 @@ pub fn respond(
 ) -> Response
     ensures { λ r. ⌜ responded r (lent (now (message .exit)) (now (words .exit)) (now (literals .exit)) (now (work .exit)) (now (output .exit))) ≡ respond (now (input .entry)) (lent (now (message .entry)) (now (words .entry)) (now (literals .entry)) (now (work .entry)) (now (output .entry))) ⌝ }
 {
+    // no text that is printed is shorter than INPUT's line
+    if output.len() < 10 {
+        return Response::Short;
+    }
+    // "INPUT comes before all else and prints `answer=23` alone"
+    if 65536 < input.len() {
+        return Response::Written(text::put_bytes(output, 0, b"answer=23\n"));
+    }
     if !lent_enough(
         message.len(),
         words.len(),
@@ -142,10 +151,6 @@ pub fn respond(
         output.len(),
     ) {
         return Response::Short;
-    }
-    // "INPUT comes before all else and prints `answer=23` alone"
-    if 65536 < input.len() {
-        return Response::Written(text::put_bytes(output, 0, b"answer=23\n"));
     }
     Response::Written(answer_lines(input, message, words, literals, work, output))
 }
