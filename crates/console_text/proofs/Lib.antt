@@ -4,3 +4,4 @@ pub mod Tables
 pub mod Lengths
 pub mod Responding
 pub mod Exactly
+pub mod Cases
