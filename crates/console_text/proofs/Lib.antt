@@ -5,3 +5,4 @@ pub mod Lengths
 pub mod Responding
 pub mod Exactly
 pub mod Cases
+pub mod FirstLines
