@@ -6,3 +6,4 @@ pub mod Responding
 pub mod Exactly
 pub mod Cases
 pub mod FirstLines
+pub mod Completing
