@@ -108,7 +108,7 @@ module _ (input : List ℕ) where
 
   -- ════ The first two lines: what is found stands there (Tables.antt has it of the third) ════
 
-  mode-found : (mode : Mode) (q : ℕ) → modeLine input ≡ M.Is mode q → Stands input 0 (modeSpelt mode) q
+  pub mode-found : (mode : Mode) (q : ℕ) → modeLine input ≡ M.Is mode q → Stands input 0 (modeSpelt mode) q
   unfolding modeLine
   mode-found mode q = bench (keyAt input benchLine 0) refl
     where
@@ -127,11 +127,11 @@ module _ (input : List ℕ) where
           subst (λ (z : Mode). Stands input 0 (modeSpelt z) q) m (key-stands input benchLine 0 q (f ∙ ap P.At n))
       bench P.Wrong f e = display (keyAt input displayLine 0) refl e
 
-  record Budget-stands (p n q : ℕ) : Type 0 where
-    part : Stands input p (numberLine budgetKey n) q
-    fits : n < 4294967296
+  pub record Budget-stands (p n q : ℕ) : Type 0 where
+    pub part : Stands input p (numberLine budgetKey n) q
+    pub fits : n < 4294967296
 
-  budget-found : (p n q : ℕ) → budgetAt input p ≡ N.Is n q → Budget-stands p n q
+  pub budget-found : (p n q : ℕ) → budgetAt input p ≡ N.Is n q → Budget-stands p n q
   unfolding budgetAt numberLine
   budget-found p n q = go (keyAt input budgetKey p) refl
     where
@@ -145,14 +145,14 @@ module _ (input : List ℕ) where
 
   -- ════ The first three lines: what stands there is found ════
 
-  mode-back : (mode : Mode) (q : ℕ) → Stands input 0 (modeSpelt mode) q → modeLine input ≡ M.Is mode q
+  pub mode-back : (mode : Mode) (q : ℕ) → Stands input 0 (modeSpelt mode) q → modeLine input ≡ M.Is mode q
   unfolding modeLine afterKey
   mode-back Bench q s = rw (key-reads input benchLine 0 q s)
   mode-back Display q s =
       let other : keyAt input benchLine 0 ≡ P.Wrong = ap (afterKey benchLine 0) (s .is) in
       rw (other, key-reads input displayLine 0 q s)
 
-  budget-back : (p n q : ℕ) → n < 4294967296 → Stands input p (numberLine budgetKey n) q → budgetAt input p ≡ N.Is n q
+  pub budget-back : (p n q : ℕ) → n < 4294967296 → Stands input p (numberLine budgetKey n) q → budgetAt input p ≡ N.Is n q
   unfolding budgetAt numberLine
   budget-back p n q h s =
       let rest : List ℕ = decimal n ++ (10 ∷ []) in
@@ -160,7 +160,7 @@ module _ (input : List ℕ) where
       rw (key-reads input budgetKey p x (stands-first budgetKey rest s))
       (number-reads input 10 4294967295 x n q (omega arith) (omega arith) (omega arith) (stands-second budgetKey rest s))
 
-  message-back : (p q : ℕ) (message : List ℕ) → AllBelow 256 message → Stands input p (messageSpelt message) q
+  pub message-back : (p q : ℕ) (message : List ℕ) → AllBelow 256 message → Stands input p (messageSpelt message) q
       → messageAt input p ≡ taking message (B.Are (length message) q)
   unfolding messageAt
   message-back p q message h s =

@@ -7,3 +7,4 @@ pub mod Exactly
 pub mod Cases
 pub mod FirstLines
 pub mod Completing
+pub mod Stopping
