@@ -8,3 +8,5 @@ pub mod Cases
 pub mod FirstLines
 pub mod Completing
 pub mod Stopping
+pub mod Records
+pub mod Line

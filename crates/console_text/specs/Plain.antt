@@ -49,11 +49,12 @@ firstLines zero l = []
 firstLines (suc n) [] = []
 firstLines (suc n) (b ∷ l) = b ∷ cond (eqb b 10) (firstLines n l) (firstLines (suc n) l)
 
--- Line n + 1 is the first that no right input has there: some right input has the n lines before it, and none has these and then the same line
+-- Line n + 1 is the first that no right input has there: some right input has the n lines before it, and none has these and then the same line. So a
+-- line that is missing is wrong, and any after the last: 'Bytes past the last line count as one more line, which is wrong'
 pub record FirstWrong (input : List ℕ) (n : ℕ) : Type 0 where
   pub some-right : (a : Asked) × Right a × (firstLines n (spelt a) ≡ firstLines n input)
   pub none-right : (a : Asked) → Right a → firstLines (suc n) (spelt a) ≢ firstLines (suc n) input
 
--- 'listing line wrong or missing: its number, from 1'; 'LINE counts from the first line'
+-- 'listing line wrong or missing: its number, from 1'; 'LINE counts from the first line': proofs/Line.antt proves it
 abbrev pub LineExactly : Type 0
 LineExactly = (input : List ℕ) (n : ℕ) → (said input ≡ wrongLine (suc n)) ↔ FirstWrong input n
