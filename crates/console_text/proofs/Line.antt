@@ -26,7 +26,7 @@ use Rattle.console_text.specs.declared.request.ModeLine.{ModeLine}
 use Rattle.console_text.specs.declared.request.ModeLine.the-variants as M
 use Rattle.console_text.specs.Asked.{budgetKey, Said, says, wrongLine, onSaid, onMode, Table, Asked, modeLine, budgetAt, messageAt, bodySaid, tableAt, fromFourth, fromThird, fromSecond, said}
 use Rattle.console_text.specs.Printed.{numberLine}
-use Rattle.console_text.specs.Plain.{modeSpelt, spelt, firstLines, FirstWrong, LineExactly}
+use Rattle.console_text.specs.Plain.{modeSpelt, spelt, firstLines, FirstWrong, LineExactly, Judged, isSpelt, isWrongAt}
 use Rattle.console_text.proofs.Tables.{message-found}
 use Rattle.console_text.proofs.Exactly.{mode-found, budget-found, mode-back, budget-back, message-back, accepted-exactly}
 use Rattle.console_text.proofs.FirstLines.{first-fewer, Whole, whole-none, mode-whole, budget-whole, message-whole, rules-whole, nodes-whole, literals-whole}
@@ -251,3 +251,10 @@ line-exactly input n = (there, back)
         go (wrongLine m) e (k, i, g) =
             let j : k ≡ n = omega (arith, one-first input k n g f, one-first input n k f g) in
             ap wrongLine (i ∙ ap suc j)
+
+pub each-judged : (input : List ℕ) → Judged input
+each-judged input = go (said input) refl (told input)
+  where
+    go : (s : Said Asked) → said input ≡ s → SaidTold input s → Judged input
+    go (says a) e v = let x = accepted-exactly input a .0 e in isSpelt a (x .0) (x .1)
+    go (wrongLine m) e v = isWrongAt (v .0) (v .2)

@@ -58,3 +58,8 @@ pub record FirstWrong (input : List ℕ) (n : ℕ) : Type 0 where
 -- 'listing line wrong or missing: its number, from 1'; 'LINE counts from the first line': proofs/Line.antt proves it
 abbrev pub LineExactly : Type 0
 LineExactly = (input : List ℕ) (n : ℕ) → (said input ≡ wrongLine (suc n)) ↔ FirstWrong input n
+
+-- every input is spelt so or has a first wrong line: proofs/Line.antt proves it, so that the two statements together leave no input out
+pub data Judged (input : List ℕ) : Type 0 where
+  isSpelt : (a : Asked) → Right a → input ≡ spelt a → Judged input
+  isWrongAt : (n : ℕ) → FirstWrong input n → Judged input
