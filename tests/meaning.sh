@@ -1,7 +1,8 @@
 #!/usr/bin/env bash
 # meaning.sh: holds docs/MEANING.md to the repository, and the readings of docs/DECISIONS.md. What a cell points to must be there: a definition in the file it is said to be in, a function
 # in its crate with its proof where the page's head says, a law, a wrong definition or program, a group or a case of the vectors, a console input, a file. How a pointer
-# is written, the page's head says; a name in code font that a definition, proof, code or test column has in no such form is told.
+# is written, the page's head says; a name in code font that a definition, proof, code or test column has in no such form is told. And the files that must be believed,
+# there and in README.md, have as many lines as is said.
 # (That the left column has document 01's words can't be looked at here: document 01 is not in the repository.)
 set -euo pipefail
 cd "$(dirname "$0")/.."
@@ -175,6 +176,20 @@ wrong() { # KIND PLACE NAME
     esac
 }
 
+# The files that must be believed, a line a row: where it stands, how many lines are said, the files: one; a folder's, or those that it names in brackets.
+believed() {
+    awk -F ' *[|] *' '
+        /^\| `crates\// {
+            gsub(/[`,]/, "", $2); gsub(/,/, "", $3)
+            files = $2
+            if (files ~ /\/$/) files = files "*.antt"
+            count = split(files, part, /[ ()]+/)
+            if (count > 1) files = ""
+            for (i = 2; i < count; i++) files = files part[1] part[i] ".antt "
+            print FILENAME ":" FNR "\t" $3 "\t" files
+        }' "$page" README.md
+}
+
 all=$({ cells; reading_cells; } | pieces | pointers)
 for kind in definition law function 'no file' edit path console case group sentence; do
     grep -qF $'\t'"$kind"$'\t' <<<"$all" || { echo "meaning.sh: nothing of this kind was found: $kind"; exit 1; }
@@ -195,5 +210,12 @@ while IFS=$'\t' read -r at kind place name; do
     wrong "$kind" "$place" "$name"
     [ -z "$said" ] || { echo "$at: $said"; failed=1; }
 done <<<"$all"
+rows=$(believed)
+for file in "$page" README.md; do grep -q "^$file:" <<<"$rows" || { echo "$file: no files that must be believed were found"; exit 1; }; done
+while IFS=$'\t' read -r at lines files; do
+    # shellcheck disable=SC2086
+    counted=$(cat $files | wc -l) || failed=1
+    [ "$lines" = "$counted" ] || { echo "$at: $files: $counted lines, not $lines"; failed=1; }
+done <<<"$rows"
 [ "$failed" = 0 ] || exit 1
 echo "$page: $(cut -f 2- <<<"$all" | sort -u | wc -l) pointers, each to what is there"

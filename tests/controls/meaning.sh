@@ -2,7 +2,7 @@
 page=docs/MEANING.md
 
 fresh() {
-    copy crates docs examples tests/console tests/tests tests/vectors
+    copy README.md crates docs examples tests/console tests/tests tests/vectors
 }
 
 # The page names something else, in the copy that there is.
@@ -33,6 +33,8 @@ renamed 'a console input that is not there' 'tests/console/line-99-*.console is 
 renamed 'a file that is not there' 'examples/destinations is not there' 's|`examples/destination`|`examples/destinations`|'
 renamed 'a test that is not there' 'the_most_nodes is not in tests/tests/bench_cases.rs' 's/`the_most_rules`/`the_most_nodes`/'
 renamed 'a name in no form' 'sizeOk stands in none of the forms' 's/Form: `sizeOk`/`sizeOk`/'
+renamed 'a file to believe with other lines' 'crates/grammar/specs/Run.antt: 188 lines, not 187' '/Run.antt` \|/s/188/187/'
+renamed 'a file to believe that is not there' 'crates/grammar/specs/Runs.antt' 's,(crates/grammar/specs/Run)[.]antt`,\1s.antt`,'
 renamed 'no table' 'nothing of this kind was found' '/^\|/d'
 renamed 'empty' 'nothing of this kind was found' d
 
@@ -49,6 +51,9 @@ fails 'meaning, a function in two files' 'drive is in more than one file' tests/
 fresh
 change docs/DECISIONS.md 's/"LONG before WORK"/"LONG after WORK"/'
 fails 'meaning, a reading that nothing tries so' 'docs/DECISIONS.md' tests/meaning.sh
+fresh
+change README.md '/^\| `crates/d'
+fails 'meaning, a page that says nothing of what to believe' 'README.md: no files that must be believed were found' tests/meaning.sh
 fresh
 rm -rf crates/*
 fails 'meaning, no crate' 'nothing of this kind was found' tests/meaning.sh
