@@ -1,9 +1,10 @@
--- Cases beside the bench cases, each computed from the written meaning: the edges of the checks, and a run whose values are Texts. A slip that is made
--- alike in meaning and code would change them. Assumes nothing.
+-- Cases beside the bench cases, each computed from the written meaning: numbers and places of refusals, the edges of the checks, literals of each type, and a
+-- run whose values are Texts. A slip that is made alike in meaning and code would change them. Assumes nothing.
 use mathlib.Core.Path.{_≡_, refl}
 use mathlib.Core.List.{List, [], _∷_, _++_, map}
 use mathlib.Core.Bool.{Bool, true, false}
 use Prim.Native.Nat.{ℕ}
+use lib.IntN.{pos, negsuc}
 use lib.ListN.{length}
 use Rattle.laws.specs.Counting.{tabulate, smallestFailing, howMany}
 use Rattle.laws.specs.Same.{same}
@@ -12,7 +13,7 @@ use Rattle.grammar.specs.declared.Value.the-variants as Val
 use Rattle.grammar.specs.declared.Mode.{Mode}
 use Rattle.grammar.specs.declared.Mode.the-variants.{Bench, Display}
 use Rattle.grammar.specs.declared.Verdict.{Verdict}
-use Rattle.grammar.specs.declared.Verdict.the-variants.{Passed, Size, Field, Use, Start, Long, Work}
+use Rattle.grammar.specs.declared.Verdict.the-variants.{Passed, Size, Field, Use, Start, Untyped, Long, Work}
 use Rattle.grammar.specs.Numbers.{DONE}
 use Rattle.grammar.specs.Words.{signed, nodes, nodeFor, nodeAt}
 use Rattle.grammar.specs.Tree.{node, exprOf, parsingOf, exprWith, exprAt, parsingWith, parsingAt, ruleAt, grammarOf}
@@ -22,8 +23,24 @@ use Rattle.grammar.specs.Values as L
 use Rattle.grammar.specs.Values.{textBytes}
 use Rattle.grammar.specs.Run as R
 use Rattle.grammar.specs.Answer as A
-use Rattle.grammar.specs.Answer.{check, typeCheck, answered, answer}
+use Rattle.grammar.specs.Answer.{number, place, check, typeCheck, answered, answer}
 use Rattle.grammar.proofs.Bench.{records, body, returning, empty, terminal, sequence, bind, constraint, integer, bool, slot, equal, tableA}
+
+-- ════ 'Numbers that come back': number and place ════
+
+pub refusals :
+    map (λ v. number v ∷ place v ∷ []) (Passed ∷ Size ∷ Field 20 ∷ Use 30 ∷ Start ∷ Untyped 40 ∷ Long ∷ Work ∷ [])
+    ≡ (0 ∷ 0 ∷ []) ∷ (1 ∷ 0 ∷ []) ∷ (2 ∷ 20 ∷ []) ∷ (3 ∷ 30 ∷ []) ∷ (4 ∷ 0 ∷ []) ∷ (5 ∷ 40 ∷ []) ∷ (6 ∷ 0 ∷ []) ∷ (7 ∷ 0 ∷ []) ∷ []
+unfolding number place
+refusals = refl
+
+-- ════ 'Integer (high word, low word, signed 32-bit two's complement)' ════
+
+pub integers :
+    signed 0 0 ∷ signed 1 2 ∷ signed 32767 65535 ∷ signed 32768 0 ∷ signed 65535 65535 ∷ []
+    ≡ pos 0 ∷ pos 65538 ∷ pos 2147483647 ∷ negsuc 2147483647 ∷ negsuc 0 ∷ []
+unfolding signed
+integers = refl
 
 -- ════ Tables ════
 
@@ -103,10 +120,13 @@ cases =
     ∷ table-gives (literalAt 2 1) two (Field 30)
     ∷ table-gives (literalAt 0 3) two (Field 30)
     ∷ table-gives (literalAt 0 2) [] Size  -- 'literal bytes not L'
+    ∷ table-gives (tableOf (returning 0 1 1 ∷ []) (empty ∷ bool 1 ∷ []) 0) [] Passed  -- 'Bool (0 or 1)'
+    ∷ table-gives (tableOf (returning 0 1 1 ∷ []) (empty ∷ bool 2 ∷ []) 0) [] (Field 29)
     ∷ table-gives called [] Passed  -- 'Each node is used exactly once: as a part, an argument, a body or a returned node'
     ∷ table-gives calledTwice [] (Use 0)
     ∷ table-gives usedThrice [] (Use 0)
     ∷ table-gives unused [] (Use 1)
+    ∷ table-gives (tableOf (body 0 ∷ []) (terminal 0 ∷ []) 0) [] Passed  -- the byte 0 is no node
     ∷ table-gives inheritsToo [] (Use 1)  -- '3, 4'
     ∷ table-gives (tableOf (inheriting 0 ∷ []) (empty ∷ []) 0) [] Start
     ∷ []
@@ -114,6 +134,19 @@ cases =
 pub edges : map given cases ≡ map (λ (c : Case). c .expected) cases
 unfolding given cases tableA tabulate smallestFailing howMany signed nodes nodeFor nodeAt exprOf parsingOf exprWith exprAt parsingWith parsingAt ruleAt grammarOf F.fieldSorts F.fieldSort F.ruleSorts F.fits F.ruleWordOk F.nodeWordOk F.wordOk F.usesNode F.wordUses F.uses F.every F.sizeOk F.tableCheck same T.operatorType T.exprType T.has T.haveAll T.assign T.assignAll T.typeOf T.typedAfter T.typedRule T.untyped A.typeRules typeCheck check
 edges = refl
+
+-- ════ Bools and Integers ════
+
+-- empty, returning Bool 1, Bool 0, whether 2 equals -3, and whether -3 equals 2
+pub boolsTable : List ℕ
+boolsTable = tableOf ((0 ∷ 0 ∷ 0 ∷ 0 ∷ 0 ∷ 0 ∷ 4 ∷ 1 ∷ 2 ∷ 5 ∷ 8 ∷ 1 ∷ 1 ∷ 1 ∷ 1 ∷ []) ∷ [])
+    (empty ∷ bool 1 ∷ bool 0
+    ∷ integer 0 2 ∷ integer 65535 65533 ∷ equal 3 4
+    ∷ integer 65535 65533 ∷ integer 0 2 ∷ equal 6 7 ∷ []) 0
+
+pub bools : answer Display boolsTable [] [] 1 9760 ≡ answered DONE 0 0 1 (Val.Bool true ∷ Val.Bool false ∷ Val.Bool false ∷ Val.Bool false ∷ [])
+unfolding boolsTable tabulate smallestFailing howMany signed nodes nodeFor nodeAt node exprOf parsingOf exprWith exprAt parsingWith parsingAt ruleAt grammarOf F.fieldSorts F.fieldSort F.ruleSorts F.fits F.ruleWordOk F.nodeWordOk F.wordOk F.usesNode F.wordUses F.uses F.every F.sizeOk F.tableCheck same T.operatorType T.exprType T.has T.haveAll T.assign T.assignAll T.typeOf T.typedAfter T.typedRule T.untyped L.spanBytes L.sameTexts L.equal L.lookLeft L.operate R.eval R.evalAll R.next R.withValue R.fresh R.byteStands R.due R.returning R.visit R.admit R.apply A.typeRules typeCheck check A.run A.answerOf A.conclude answer
+bools = refl
 
 -- ════ Texts ════
 

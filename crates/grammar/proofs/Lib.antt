@@ -3,6 +3,7 @@ pub mod Cases
 pub mod Fuel
 pub mod Integers
 pub mod Facts
+pub mod Afterwards
 pub mod Records
 pub mod Nodes
 pub mod Decode
