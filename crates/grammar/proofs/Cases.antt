@@ -24,7 +24,7 @@ use Rattle.grammar.specs.Values.{textBytes}
 use Rattle.grammar.specs.Run as R
 use Rattle.grammar.specs.Answer as A
 use Rattle.grammar.specs.Answer.{number, place, check, typeCheck, answered, answer}
-use Rattle.grammar.proofs.Bench.{records, body, returning, empty, terminal, sequence, bind, constraint, integer, bool, slot, equal, tableA}
+use Rattle.grammar.proofs.Bench.{records, body, returning, empty, terminal, sequence, bind, constraint, integer, bool, slot, update, add, equal, tableA}
 
 -- ════ 'Numbers that come back': number and place ════
 
@@ -59,9 +59,9 @@ textual start size = 18 ∷ start ∷ size ∷ []
 abbrev calling : ℕ → List ℕ
 calling argument = 7 ∷ 1 ∷ argument ∷ []
 
--- empty, returning a Text of two literal bytes. Its node record begins at word 28: start at 29, length at 30
+-- empty, returning a Text of three literal bytes. Its node record begins at word 28: start at 29, length at 30
 abbrev literalAt : ℕ → ℕ → List ℕ
-literalAt start size = tableOf (returning 0 1 3 ∷ []) (empty ∷ textual start size ∷ []) 2
+literalAt start size = tableOf (returning 0 1 3 ∷ []) (empty ∷ textual start size ∷ []) 3
 
 -- rule 0 calls rule 1 with node 0
 abbrev called : List ℕ
@@ -105,8 +105,8 @@ abbrev lengths-give : (messageLength workLength : ℕ) → Verdict → Case
 lengths-give messageLength workLength v =
     record { mode = Display; words = tableA; literals = []; messageLength = messageLength; workLength = workLength; expected = v }
 
-abbrev two : List ℕ
-two = 97 ∷ 98 ∷ []
+abbrev three : List ℕ
+three = 97 ∷ 98 ∷ 99 ∷ []
 
 pub cases : List Case
 cases =
@@ -114,12 +114,12 @@ cases =
     ∷ lengths-give 65536 9760 Long
     ∷ lengths-give 65535 9759 Work  -- 'work area under W words'
     ∷ lengths-give 65536 9759 Long  -- '6, 7'
-    ∷ table-gives (literalAt 0 2) two Passed  -- 'Text (start, length in the literals, end at most L)'
-    ∷ table-gives (literalAt 2 0) two Passed
-    ∷ table-gives (literalAt 3 0) two (Field 29)  -- 'a start over L is the bad word; else an end over L makes the length the bad word'
-    ∷ table-gives (literalAt 2 1) two (Field 30)
-    ∷ table-gives (literalAt 0 3) two (Field 30)
-    ∷ table-gives (literalAt 0 2) [] Size  -- 'literal bytes not L'
+    ∷ table-gives (literalAt 0 3) three Passed  -- 'Text (start, length in the literals, end at most L)'
+    ∷ table-gives (literalAt 3 0) three Passed
+    ∷ table-gives (literalAt 4 0) three (Field 29)  -- 'a start over L is the bad word; else an end over L makes the length the bad word'
+    ∷ table-gives (literalAt 3 1) three (Field 30)
+    ∷ table-gives (literalAt 0 4) three (Field 30)
+    ∷ table-gives (literalAt 0 3) [] Size  -- 'literal bytes not L'
     ∷ table-gives (tableOf (returning 0 1 1 ∷ []) (empty ∷ bool 1 ∷ []) 0) [] Passed  -- 'Bool (0 or 1)'
     ∷ table-gives (tableOf (returning 0 1 1 ∷ []) (empty ∷ bool 2 ∷ []) 0) [] (Field 29)
     ∷ table-gives called [] Passed  -- 'Each node is used exactly once: as a part, an argument, a body or a returned node'
@@ -147,6 +147,25 @@ boolsTable = tableOf ((0 ∷ 0 ∷ 0 ∷ 0 ∷ 0 ∷ 0 ∷ 4 ∷ 1 ∷ 2 ∷ 5 �
 pub bools : answer Display boolsTable [] [] 1 9760 ≡ answered DONE 0 0 1 (Val.Bool true ∷ Val.Bool false ∷ Val.Bool false ∷ Val.Bool false ∷ [])
 unfolding boolsTable tabulate smallestFailing howMany signed nodes nodeFor nodeAt node exprOf parsingOf exprWith exprAt parsingWith parsingAt ruleAt grammarOf F.fieldSorts F.fieldSort F.ruleSorts F.fits F.ruleWordOk F.nodeWordOk F.wordOk F.usesNode F.wordUses F.uses F.every F.sizeOk F.tableCheck same T.operatorType T.exprType T.has T.haveAll T.assign T.assignAll T.typeOf T.typedAfter T.typedRule T.untyped L.spanBytes L.sameTexts L.equal L.lookLeft L.operate R.eval R.evalAll R.next R.withValue R.fresh R.byteStands R.due R.returning R.visit R.admit R.apply A.typeRules typeCheck check A.run A.answerOf A.conclude answer
 bools = refl
+
+-- ════ A call ════
+
+-- rule 0: x0←9, a call of rule 1 with 5, true, 7, false that receives into slots 7, 5, 11, 2, ?(x0==9); it returns these four slots. Rule 1: x0←x0+1, and it returns
+-- its four slots from the last to the first
+pub callTable : List ℕ
+callTable = tableOf ((12 ∷ 0 ∷ 0 ∷ 0 ∷ 0 ∷ 0 ∷ 4 ∷ 13 ∷ 14 ∷ 15 ∷ 16 ∷ 1 ∷ 2 ∷ 1 ∷ 2 ∷ []) ∷ (20 ∷ 4 ∷ 2 ∷ 1 ∷ 2 ∷ 1 ∷ 4 ∷ 21 ∷ 22 ∷ 23 ∷ 24 ∷ 1 ∷ 2 ∷ 1 ∷ 2 ∷ []) ∷ [])
+    (integer 0 9 ∷ update 0 0
+    ∷ integer 0 5 ∷ bool 1 ∷ integer 0 7 ∷ bool 0 ∷ (7 ∷ 1 ∷ 2 ∷ 3 ∷ 4 ∷ 5 ∷ 7 ∷ 5 ∷ 11 ∷ 2 ∷ [])
+    ∷ slot 0 ∷ integer 0 9 ∷ equal 7 8 ∷ constraint 9
+    ∷ sequence 6 10 ∷ sequence 1 11
+    ∷ slot 7 ∷ slot 5 ∷ slot 11 ∷ slot 2
+    ∷ slot 0 ∷ integer 0 1 ∷ add 17 18 ∷ update 0 19
+    ∷ slot 3 ∷ slot 2 ∷ slot 1 ∷ slot 0 ∷ []) 0
+
+-- 'A call evaluates its arguments, runs the body in fresh slots, evaluates the returned nodes there, then sets its receiving slots left to right'
+pub a-call : answer Display callTable [] [] 6 9760 ≡ answered DONE 0 0 6 (Val.Bool false ∷ Val.Integer (pos 7) ∷ Val.Bool true ∷ Val.Integer (pos 6) ∷ [])
+unfolding callTable tabulate smallestFailing howMany signed nodes nodeFor nodeAt node exprOf parsingOf exprWith exprAt parsingWith parsingAt ruleAt grammarOf F.fieldSorts F.fieldSort F.ruleSorts F.fits F.ruleWordOk F.nodeWordOk F.wordOk F.usesNode F.wordUses F.uses F.every F.sizeOk F.tableCheck same T.operatorType T.exprType T.has T.haveAll T.assign T.assignAll T.typeOf T.typedAfter T.typedRule T.untyped L.spanBytes L.sameTexts L.equal L.lookLeft L.operate R.eval R.evalAll R.next R.withValue R.fresh R.byteStands R.due R.returning R.visit R.admit R.apply A.typeRules typeCheck check A.run A.answerOf A.conclude answer R.receive R.judged L.fitting L.calculated
+a-call = refl
 
 -- ════ Texts ════
 

@@ -9,7 +9,8 @@ use Rattle.laws.specs.Tabulate.{at-tabulate, length-tabulate}
 use Rattle.grammar.specs.declared.Node.{Node}
 use Rattle.grammar.specs.declared.Node.the-variants as N
 use Rattle.grammar.specs.Words.{ruleCount, nodeCount, ruleWord, inheritedCount, returnedCount, nodeAt}
-use Rattle.grammar.specs.Tree.{Expr, Parsing, Rule, four, exprOf, parsingOf, exprWith, exprAt, parsingWith, parsingAt, ruleOf, ruleAt, grammarOf}
+use Rattle.grammar.specs.Tree.{Expr, bool, integer, text, slot, binary, negation}
+use Rattle.grammar.specs.Tree.{Parsing, node, Rule, four, exprOf, parsingOf, levelsOf, exprWith, exprAt, parsingWith, parsingAt, ruleOf, ruleAt, grammarOf}
 use Rattle.grammar.proofs.Facts.{SoundTable, sizes}
 use Rattle.grammar.proofs.Nodes.{NodeRight, node-right}
 
@@ -101,6 +102,68 @@ module _ (words literals : List ℕ) (table : SoundTable words literals) where
   parsing-tree k c =
       parsingOf-same words k (inheritedCount words) (returnedCount words) (exprAt words) (parsingWith k words) (parsingAt words) (nodeAt words k)
       (λ a l. parsing-fuel k (suc a) a (omega arith) l (omega arith)) (node-right words literals table k c)
+
+-- ════ Numbers ════
+
+-- the number that an expression's tree carries
+pub numberOf : Expr → ℕ
+numberOf (bool k b) = k
+numberOf (integer k z) = k
+numberOf (text k start length) = k
+numberOf (slot k s) = k
+numberOf (binary k op e f) = k
+numberOf (negation k e) = k
+
+-- A node's tree carries the node's number, whatever the table: it is this node that an answer names as its place
+pub expr-number : (words : List ℕ) (k : ℕ) → numberOf (exprAt words k) ≡ k
+unfolding numberOf exprAt exprWith exprOf
+expr-number words k = with-fuel (levelsOf k)
+  where
+    of-node : (part : ℕ → Expr) (n : Node) → numberOf (exprOf part k n) ≡ k
+    of-node part N.Unknown = refl
+    of-node part N.Empty = refl
+    of-node part (N.Terminal a) = refl
+    of-node part (N.Sequence a b) = refl
+    of-node part (N.Choice a b) = refl
+    of-node part (N.Repeat a) = refl
+    of-node part (N.Not a) = refl
+    of-node part (N.Call r a b c d s t u v) = refl
+    of-node part (N.Bind s a) = refl
+    of-node part (N.Update s a) = refl
+    of-node part (N.Constraint a) = refl
+    of-node part (N.Bool b) = refl
+    of-node part (N.Integer z) = refl
+    of-node part (N.Text start length) = refl
+    of-node part (N.Slot s) = refl
+    of-node part (N.Binary op a b) = refl
+    of-node part (N.Negation a) = refl
+
+    with-fuel : (fuel : ℕ) → numberOf (exprWith fuel words k) ≡ k
+    with-fuel zero = refl
+    with-fuel (suc fuel) = of-node (exprWith fuel words) (nodeAt words k)
+
+pub parsing-number : (words : List ℕ) (k : ℕ) → node (parsingAt words k) ≡ k
+unfolding node parsingAt parsingWith parsingOf
+parsing-number words k = of-node (parsingWith k words) (nodeAt words k)
+  where
+    of-node : (part : ℕ → Parsing) (n : Node) → node (parsingOf (inheritedCount words) (returnedCount words) (exprAt words) part k n) ≡ k
+    of-node part N.Unknown = refl
+    of-node part N.Empty = refl
+    of-node part (N.Terminal a) = refl
+    of-node part (N.Sequence a b) = refl
+    of-node part (N.Choice a b) = refl
+    of-node part (N.Repeat a) = refl
+    of-node part (N.Not a) = refl
+    of-node part (N.Call r a b c d s t u v) = refl
+    of-node part (N.Bind s a) = refl
+    of-node part (N.Update s a) = refl
+    of-node part (N.Constraint a) = refl
+    of-node part (N.Bool b) = refl
+    of-node part (N.Integer z) = refl
+    of-node part (N.Text start length) = refl
+    of-node part (N.Slot s) = refl
+    of-node part (N.Binary op a b) = refl
+    of-node part (N.Negation a) = refl
 
 -- ════ Rules ════
 
