@@ -4,10 +4,16 @@ use mathlib.Core.Path.{_≡_, refl}
 use mathlib.Core.List.{List, [], _∷_, _++_, map}
 use mathlib.Core.Bool.{Bool, true, false}
 use Prim.Native.Nat.{ℕ}
-use lib.IntN.{pos, negsuc}
+use lib.IntN.{ℤ, pos, negsuc}
 use lib.ListN.{length}
 use Rattle.laws.specs.Counting.{tabulate, smallestFailing, howMany}
 use Rattle.laws.specs.Same.{same}
+use Rattle.grammar.specs.declared.Arithmetic.the-variants.{Add, Subtract, Multiply, Divide}
+use Rattle.grammar.specs.declared.Operator.{Operator}
+use Rattle.grammar.specs.declared.Operator.the-variants.{Calculate, Equal, Greater, And, Or}
+use Rattle.grammar.specs.declared.Fault.{Fault}
+use Rattle.grammar.specs.declared.Fault.the-variants.{Overflow, ZeroDivisor}
+use Rattle.grammar.specs.declared.Ending.the-variants.{Stuck, «Fault» as AtFault}
 use Rattle.grammar.specs.declared.Value.{Value}
 use Rattle.grammar.specs.declared.Value.the-variants as Val
 use Rattle.grammar.specs.declared.Mode.{Mode}
@@ -20,7 +26,7 @@ use Rattle.grammar.specs.Tree.{node, exprOf, parsingOf, exprWith, exprAt
 use Rattle.grammar.specs.Form as F
 use Rattle.grammar.specs.Types as T
 use Rattle.grammar.specs.Values as L
-use Rattle.grammar.specs.Values.{textBytes}
+use Rattle.grammar.specs.Values.{textBytes, Evaluated, value, ends, present, lookLeft, operate, negated}
 use Rattle.grammar.specs.Run as R
 use Rattle.grammar.specs.Answer as A
 use Rattle.grammar.specs.Answer.{number, place, check, typeCheck, answered, answer}
@@ -196,3 +202,109 @@ texts = refl
 pub texts-bytes : map (textBytes abc zb) (part false 1 1 ∷ part true 0 2 ∷ part false 1 3 ∷ part true 2 1 ∷ part true 2 0 ∷ []) ≡ (98 ∷ []) ∷ zb ∷ [] ∷ [] ∷ [] ∷ []
 unfolding L.spanBytes textBytes
 texts-bytes = refl
+
+-- ════ What operators make of their operands ════
+
+-- an operator, node 7, its operands, and what it gives
+pub record Operation : Type 0 where
+  pub operator : Operator
+  pub left : Value
+  pub right : Value
+  pub result : Evaluated Value
+
+abbrev operation : Operator → Value → Value → Evaluated Value → Operation
+operation op v w e = record { operator = op; left = v; right = w; result = e }
+
+-- of two Integers; `negsuc n` is -(n + 1)
+abbrev integers-give : Operator → ℤ → ℤ → Evaluated Value → Operation
+integers-give op a b e = operation op (Val.Integer a) (Val.Integer b) e
+
+abbrev is : ℤ → Evaluated Value
+is z = value (Val.Integer z)
+
+abbrev says : Bool → Evaluated Value
+says b = value (Val.Bool b)
+
+-- 'an operand has the wrong type or equal gets two types (the operator)'; '32-bit overflow or zero divisor'
+abbrev isStuck : Evaluated Value
+isStuck = ends Stuck 7
+
+abbrev faulty : Fault → Evaluated Value
+faulty why = ends (AtFault why) 7
+
+pub operations : List Operation
+operations =
+    integers-give (Calculate Add) (pos 7) (negsuc 2) (is (pos 4))  -- 7 + -3
+    ∷ integers-give (Calculate Subtract) (pos 7) (pos 3) (is (pos 4))
+    ∷ integers-give (Calculate Subtract) (pos 3) (pos 7) (is (negsuc 3))
+    ∷ integers-give (Calculate Multiply) (pos 7) (pos 3) (is (pos 21))
+    ∷ integers-give (Calculate Divide) (pos 7) (pos 3) (is (pos 2))
+    ∷ integers-give (Calculate Divide) (negsuc 6) (pos 3) (is (negsuc 1))  -- 'Negative division drops the fraction, toward zero': -7 by 3
+    ∷ integers-give (Calculate Divide) (pos 7) (negsuc 2) (is (negsuc 1))
+    ∷ integers-give (Calculate Divide) (negsuc 6) (negsuc 2) (is (pos 2))
+    ∷ integers-give (Calculate Add) (pos 2147483647) (pos 1) (faulty Overflow)
+    ∷ integers-give (Calculate Subtract) (negsuc 2147483647) (pos 1) (faulty Overflow)
+    ∷ integers-give (Calculate Subtract) (negsuc 2147483646) (pos 1) (is (negsuc 2147483647))
+    ∷ integers-give (Calculate Multiply) (pos 65536) (pos 32768) (faulty Overflow)
+    ∷ integers-give (Calculate Multiply) (pos 65536) (negsuc 32767) (is (negsuc 2147483647))
+    ∷ integers-give (Calculate Divide) (negsuc 2147483647) (negsuc 0) (faulty Overflow)
+    ∷ integers-give (Calculate Divide) (pos 7) (pos 0) (faulty ZeroDivisor)
+    ∷ operation (Calculate Add) (Val.Bool true) (Val.Integer (pos 1)) isStuck
+    ∷ operation (Calculate Add) (Val.Integer (pos 1)) (part true 0 1) isStuck
+    ∷ operation (Calculate Divide) (Val.Integer (pos 1)) Val.Absent isStuck
+    ∷ integers-give Greater (pos 3) (pos 2) (says true)
+    ∷ integers-give Greater (pos 3) (pos 3) (says false)
+    ∷ integers-give Greater (negsuc 2) (pos 2) (says false)
+    ∷ integers-give Greater (negsuc 1) (negsuc 2) (says true)
+    ∷ operation Greater (Val.Bool true) (Val.Bool false) isStuck
+    ∷ integers-give Equal (pos 3) (pos 3) (says true)  -- 'equal takes two of one type'
+    ∷ integers-give Equal (pos 3) (pos 4) (says false)
+    ∷ integers-give Equal (pos 3) (negsuc 3) (says false)
+    ∷ integers-give Equal (negsuc 3) (pos 3) (says false)
+    ∷ integers-give Equal (negsuc 3) (negsuc 3) (says true)
+    ∷ integers-give Equal (negsuc 3) (negsuc 4) (says false)
+    ∷ operation Equal (Val.Bool true) (Val.Bool true) (says true)
+    ∷ operation Equal (Val.Bool true) (Val.Bool false) (says false)
+    ∷ operation Equal (Val.Bool false) (Val.Bool true) (says false)
+    ∷ operation Equal (Val.Bool false) (Val.Bool false) (says true)
+    ∷ operation Equal (part false 1 1) (part true 1 1) (says true)
+    ∷ operation Equal (part false 0 1) (part true 1 1) (says false)
+    ∷ operation Equal (Val.Bool true) (Val.Integer (pos 1)) isStuck
+    ∷ operation Equal (Val.Integer (pos 1)) (Val.Bool true) isStuck
+    ∷ operation Equal (part false 0 1) (Val.Integer (pos 1)) isStuck
+    ∷ operation Equal (part false 0 1) Val.Absent isStuck
+    ∷ operation Equal Val.Absent Val.Absent isStuck
+    ∷ operation And (Val.Bool true) (Val.Bool true) (says true)
+    ∷ operation And (Val.Bool true) (Val.Bool false) (says false)
+    ∷ operation And (Val.Bool true) (part true 0 1) isStuck
+    ∷ operation Or (Val.Bool false) (Val.Bool true) (says true)
+    ∷ operation Or (Val.Bool false) (Val.Bool false) (says false)
+    ∷ operation Or (Val.Bool false) (Val.Integer (pos 1)) isStuck
+    ∷ []
+
+pub operated :
+    map (λ (o : Operation). operate abc zb (o .operator) 7 (o .left) (o .right)) operations ≡ map (λ (o : Operation). o .result) operations
+unfolding operations L.fitting L.quotient L.calculated same L.spanBytes L.sameTexts L.equal operate
+operated = refl
+
+-- 'And, or look at the left value first: if it isn't Bool that is STUCK at once, and if it decides the right stays unevaluated': before the right, which is STUCK
+-- at node 9
+pub looked :
+    lookLeft abc zb And 7 (Val.Bool false) (ends Stuck 9)
+    ∷ lookLeft abc zb Or 7 (Val.Bool true) (ends Stuck 9)
+    ∷ lookLeft abc zb And 7 (Val.Bool true) (ends Stuck 9)
+    ∷ lookLeft abc zb Or 7 (Val.Bool false) (ends Stuck 9)
+    ∷ lookLeft abc zb And 7 (Val.Integer (pos 1)) (ends Stuck 9)
+    ∷ lookLeft abc zb Or 7 (part true 0 1) (ends Stuck 9)
+    ∷ lookLeft abc zb Equal 7 Val.Absent (ends Stuck 9)
+    ∷ []
+    ≡ says false ∷ says true ∷ ends Stuck 9 ∷ ends Stuck 9 ∷ isStuck ∷ isStuck ∷ ends Stuck 9 ∷ []
+unfolding lookLeft
+looked = refl
+
+-- not, and 'an unset slot is read (the slot node)'
+pub not-and-slots :
+    negated 7 (Val.Bool true) ∷ negated 7 (Val.Bool false) ∷ negated 7 (Val.Integer (pos 0)) ∷ present 7 Val.Absent ∷ present 7 (part true 0 1) ∷ []
+    ≡ says false ∷ says true ∷ isStuck ∷ isStuck ∷ value (part true 0 1) ∷ []
+unfolding negated
+not-and-slots = refl
