@@ -5,3 +5,4 @@ pub mod Numbers
 pub mod Keys
 pub mod Pairs
 pub mod Unique
+pub mod Cases
