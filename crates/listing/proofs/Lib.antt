@@ -7,3 +7,4 @@ pub mod Fills
 pub mod Back
 pub mod Exactly
 pub mod Unique
+pub mod Cases
