@@ -5,8 +5,8 @@
 # the wrong definition is none, since the prover doesn't take it.
 #
 # That the code doesn't meet its contract any more says nothing here: definition and code could slip together. So the crate is tried bare: without its functions, with the
-# types that it declares, its specs, and the laws that stand in proofs/ itself (what is proved of a function stands in a folder of its own). This makes it a second or so an edit, too:
-# rt, which tries the edits that stand in must-fail/ directly, would check the whole crate again for each.
+# types that it declares, its specs, and the laws that stand in proofs/ itself (what is proved of a function stands in a folder of its own); with an edit, only the law's
+# file and those that it rests on. This makes it some seconds an edit, too: rt, which tries the edits that stand in must-fail/ directly, would check the whole crate again for each.
 #
 # Controls, without which the script fails: the bare crate as it stands is proved, before the first edit and after the last.
 #
@@ -19,20 +19,18 @@ page=docs/MEANING.md
 # those that this script looks at; grammar's wrong definitions are rt's own
 believed='laws text values listing exports console_text'
 
-# The crate without its functions, in a repository of its own whose other crates are links.
+# The crate without its functions, and what the prover is to read of other crates: those that it names.
 prepare() { # CRATE FOLDER
-    local other file bare=$2/crates/$1
-    mkdir -p "$2/target/log" "$bare"
-    cp "$top/crates.txt" "$2"
-    ln -s "$top/target/rlib" "$top/target/stamp" "$2/target"
-    for other in "$top/crates"/*; do [ "$other" = "$top/crates/$1" ] || ln -s "$other" "$2/crates"; done
+    local file other
     (cd "$top/crates/$1" && find src -name '*.rt') | while read -r file; do
-        mkdir -p "$(dirname "$bare/$file")"
-        declared <"$top/crates/$1/$file" >"$bare/$file"
+        mkdir -p "$(dirname "$2/$1/$file")"
+        declared <"$top/crates/$1/$file" >"$2/$1/$file"
     done
     unedited "$1" "$2"
-    [ ! -d "$top/crates/$1/proofs" ] || mkdir "$bare/proofs"
-    find "$top/crates/$1" -path '*/proofs/*.antt' ! -path '*/proofs/*/*' -exec cp {} "$bare/proofs" \;
+    with_laws "$1" "$2"
+    for other in $(grep -rhoE 'Rattle·[a-z_]+\.|^use [a-z_]+::' "$2/$1" | sed -E 's/Rattle·|use |\.|://g' | sort -u); do
+        case $other in "$1" | crate) ;; *) externs+=(--extern "$other=$top/target/rlib/$other.rlib") ;; esac
+    done
 }
 
 # What a source file declares: modules, types, and the names of other types.
@@ -46,8 +44,27 @@ declared() {
 
 # The specs without any edit.
 unedited() { # CRATE FOLDER
-    rm -rf "$2/crates/$1/specs"
-    cp -R "$top/crates/$1/specs" "$2/crates/$1"
+    rm -rf "$2/$1/specs"
+    cp -R "$top/crates/$1/specs" "$2/$1"
+}
+
+# The laws of this file with those that they rest on; all of them where no file is named.
+with_laws() { # CRATE FOLDER [FILE]
+    local module from=$top/crates/$1/proofs to=$2/$1/proofs todo
+    rm -rf "$to"
+    case ${3:-all}-$([ -d "$from" ] && echo there) in
+    *-) return 0 ;;
+    all-*) todo=$(sed -n 's/^pub mod //p' "$from/Lib.antt" | tr '\n' ' ') ;;
+    specs/*) return 0 ;;
+    *) todo=$(basename "$3" .antt) ;;
+    esac
+    mkdir "$to"
+    while read -r module todo <<<"$todo" && [ -n "$module" ]; do
+        [ ! -f "$to/$module.antt" ] || continue
+        cp "$from/$module.antt" "$to" || return 1
+        echo "pub mod $module" >>"$to/Lib.antt"
+        todo="$todo $(sed -nE "s/^use Rattle·$1·proofs\.proofs\.([A-Za-z]+).*/\1/p" "$from/$module.antt" | tr '\n' ' ')"
+    done
 }
 
 # Puts the new text in the place of the old one, which stands just once in its file, and prints the definition that it stands in: the last whose signature begins before its end.
@@ -102,18 +119,17 @@ fail() { # MESSAGE
 
 # Whether the crate is proved as it stands in the folder; the log is left there.
 check() { # CRATE FOLDER
-    (cd "$2" && RT_CUT=0 rt dev "$1" >log 2>&1) || true
+    (cd "$2" && rt check "./$1" ${externs[@]+"${externs[@]}"} -L "dependency=$top/target/rlib" --incremental "$2/checked" >log 2>&1) || true
     grep -q '^logic=proved ' "$2/log"
 }
 
 # The laws and definitions that the prover refuses for their own sake, a line each: file and name. A file that it can't read has a dash for the name.
 refusals() { # CRATE LOG
-    awk -v crate="/crates/$1/" '
+    awk -v crate="/$1/" '
         /\.antt:[0-9]+:[0-9]+: error: / && !/was not admitted/ {
             file = $0; sub(/:[0-9]+:[0-9]+: error: .*/, "", file)
-            at = index(file, crate)
             name = $0; sub(/^.*:[0-9]+:[0-9]+: error: /, "", name)
-            if (at) print substr(file, at + length(crate)), match(name, /^`[^`]+`:/) ? substr(name, 2, RLENGTH - 3) : "-"
+            if (match(file, crate "(specs|proofs)/")) print substr(file, RSTART + length(crate)), match(name, /^`[^`]+`:/) ? substr(name, 2, RLENGTH - 3) : "-"
         }' "$2" | sort -u
 }
 
@@ -122,11 +138,14 @@ try() { # CRATE FOLDER EDIT
     local name law changed refused definition
     name=$1/$(basename "$3" .edit)
     law=$(said_of "$3" refused)
-    if ! changed=$(apply "$3" "$2/crates/$1") || [ -z "$changed" ]; then
+    if ! changed=$(apply "$3" "$2/$1") || [ -z "$changed" ]; then
         fail "$name: an old text does not stand in its file just once"
         return
-    elif [ "$(wc -w <<<"$law")" != 2 ]; then
+    elif [ "$(wc -w <<<"$law")" != 2 ] || ! [ -f "$top/crates/$1/${law% *}" ]; then
         fail "$name: it does not name one law, with its file"
+        return
+    elif ! with_laws "$1" "$2" "${law% *}"; then
+        fail "$name: the laws of ${law% *} rest on some that are not there"
         return
     elif check "$1" "$2"; then
         fail "$name: NOT REFUSED at $law"
@@ -168,8 +187,9 @@ quoting() { # CRATE
 }
 
 one_crate() { # CRATE
-    local folder edit definition count=0 began=$SECONDS
+    local folder edit definition externs=() count=0 began=$SECONDS
     folder=$(mktemp -d "$top/target/wrong_definitions.XXXXXX")
+    mkdir "$folder/checked"
     # shellcheck disable=SC2064
     trap "rm -rf '$folder'" EXIT
     prepare "$1" "$folder"
@@ -186,6 +206,7 @@ one_crate() { # CRATE
         count=$((count + 1))
     done
     unedited "$1" "$folder"
+    with_laws "$1" "$folder"
     check "$1" "$folder" || fail "$1: after the last edit it is not proved as it stands"
     for definition in $(named "$1"); do
         grep -qxF "$definition" "$folder/changed" || fail "$1: NO EDIT CHANGES $definition, which $page names"
