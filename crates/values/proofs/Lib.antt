@@ -3,3 +3,5 @@ pub mod Complement
 pub mod Stored
 pub mod SlotList
 pub mod HandedOut
+pub mod Unique
+pub mod Cases
