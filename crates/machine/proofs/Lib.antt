@@ -18,3 +18,4 @@ pub mod WordReturns
 pub mod WordsAreNodes
 pub mod Entry
 pub mod ThreeSteps
+pub mod Unique
