@@ -10,3 +10,5 @@ pub mod Completing
 pub mod Stopping
 pub mod Records
 pub mod Line
+pub mod Inputs
+pub mod Unique
