@@ -1,6 +1,6 @@
 #!/usr/bin/env bash
 # figures.sh [LOG]: prints docs/FIGURES.md. What can be counted is counted; the seconds and the number of controls are taken from the log of a run of ./test, if one is given
-# (`time ./test 2>&1 | tee LOG`: rt tells how long each crate took, tests/must_fail.sh too, and `real` is the whole).
+# (`time ./test 2>&1 | tee LOG`: rt tells how long each crate took, tests/must_fail.sh and tests/wrong_definitions.sh too, and `real` is the whole).
 set -euo pipefail
 if [ -n "${1:-}" ]; then log=$(realpath "$1"); else log=/dev/null; fi
 cd "$(dirname "$0")/.."
@@ -113,14 +113,16 @@ tried() {
 }
 
 gate() {
-    local whole verdict wrong
+    local whole verdict wrong definitions
     whole=$(sed -nE 's/^real[[:space:]]+([0-9]+)m([0-9]+).*/\1 min \2 s/p' "$log" | tail -n 1)
     verdict=$(grep -E '^[0-9]+ passed, [0-9]+ failed' "$log" | tail -n 1 || true)
     wrong=$(awk -F '[: ]+' 'NF == 3 && $2 ~ /^[0-9]+$/ && $3 == "s" { n += $2 } END { print n + 0 }' "$log")
+    definitions=$(sed -nE 's/^[a-z_0-9]+: [0-9]+ wrong definitions, ([0-9]+) s$/\1/p' "$log" | awk '{ n += $1 } END { print n + 0 }')
     echo '| what | |'
     echo '|---|--:|'
     echo "| crates, one after the other (the sum above) | $(nonzero "$(sed -nE 's/^rt: [a-z_0-9]+ proved \(([0-9]+) s\)$/\1/p' "$log" | awk '{ n += $1 } END { print n + 0 }')") s |"
     echo "| wrong programs, one crate after the other | $(nonzero "$wrong") s |"
+    echo "| wrong definitions of other crates than grammar, one crate after the other | $(nonzero "$definitions") s |"
     echo "| the whole of ./test | ${whole:-–} |"
     echo "| rt ci | ${verdict:-–} |"
 }

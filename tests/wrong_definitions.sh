@@ -1,17 +1,19 @@
 #!/usr/bin/env bash
-# wrong_definitions.sh [CRATE..]: tries the wrong definitions of the crates whose specs say sentences of document 01 beside grammar's, crates/CRATE/must-fail/specs/*.edit. Each is an
-# edit of the crate's specs in the form of rt's must-fail edits, with a line `refused: FILE LAW`: a law of the meaning, or a case that the prover computes, in that file. With
-# the edit the prover must refuse just that law, by its own words. Not enough are: that the law isn't proved because another that it names isn't; and that
-# the wrong definition is none, since the prover doesn't take it.
+# wrong_definitions.sh [CRATE..]: tries the wrong definitions of the crates that say sentences of document 01 beside grammar, crates/CRATE/must-fail/specs/*.edit. Each is
+# an edit of the crate's specs in the form of rt's must-fail edits, with a line `refused: FILE LAW`: a law of the meaning, or a case that the prover computes, in that
+# file. With the edit the prover must refuse this law, by its own words. Not enough are: that the law isn't proved because another that it names isn't; and that the wrong
+# definition is none, since the prover doesn't take it.
 #
 # That the code doesn't meet its contract any more says nothing here: definition and code could slip together. So the crate is tried bare: without its functions, with the
 # types that it declares, its specs, and the laws that stand in proofs/ itself (what is proved of a function stands in a folder of its own); with an edit, only the law's
-# file and those that it rests on. This makes it some seconds an edit, too: rt, which tries the edits that stand in must-fail/ directly, would check the whole crate again for each.
+# file and those that it rests on. It is some seconds an edit, too: rt, which tries the edits that stand in must-fail/ directly, would check the whole crate again for
+# each.
 #
 # Controls, without which the script fails: the bare crate as it stands is proved, before the first edit and after the last.
 #
-# And no definition is missed: each of these crates' that docs/MEANING.md names for a sentence, or whose comment quotes one, is changed by an edit. Its old text stands in the
-# definition (its signature and clauses), or in one that the definition is made of; then a line `for: NAME..` names the definition. Needs what `rt check` leaves in target/.
+# And no definition is missed: each of these crates that docs/MEANING.md names for a sentence, or whose comment quotes one, is changed by an edit. Its old text stands in
+# the definition (its signature and clauses), or in one that the definition is made of; then a line `for: NAME..` names the definition. Needs what `rt check` leaves in
+# target/.
 set -euo pipefail
 here=$(cd "$(dirname "$0")" && pwd)
 top=$(dirname "$here")
@@ -67,7 +69,7 @@ with_laws() { # CRATE FOLDER [FILE]
     done
 }
 
-# Puts the new text in the place of the old one, which stands just once in its file, and prints the definition that it stands in: the last whose signature begins before its end.
+# Puts the new text in the place of the old one, which stands just once in its file, and prints the definition that it stands in: the last that begins before its end.
 replace() { # FILE OLD NEW
     OLD=$2 NEW=$3 awk -v edited="$1.edited" '
         { line[NR] = $0; begins[NR] = length(text) + 1; text = text $0 "\n" }
@@ -129,7 +131,8 @@ refusals() { # CRATE LOG
         /\.antt:[0-9]+:[0-9]+: error: / && !/was not admitted/ {
             file = $0; sub(/:[0-9]+:[0-9]+: error: .*/, "", file)
             name = $0; sub(/^.*:[0-9]+:[0-9]+: error: /, "", name)
-            if (match(file, crate "(specs|proofs)/")) print substr(file, RSTART + length(crate)), match(name, /^`[^`]+`:/) ? substr(name, 2, RLENGTH - 3) : "-"
+            if (!match(file, crate "(specs|proofs)/")) next
+            print substr(file, RSTART + length(crate)), match(name, /^`[^`]+`:/) ? substr(name, 2, RLENGTH - 3) : "-"
         }' "$2" | sort -u
 }
 

@@ -36,6 +36,9 @@ copy crates docs
 cp crates/runs/must-fail/code/does_nothing.edit crates/runs/must-fail/code/does_more.edit
 fails 'an edit that the page leaves out' 'runs/does_more.edit is not named' tests/promises.sh
 copy crates docs
+cp crates/text/must-fail/specs/half_a_pair_is_read.edit crates/text/must-fail/specs/a_pair_is_half.edit
+fails 'a wrong definition that the page leaves out' 'text/a_pair_is_half.edit is not named' tests/promises.sh
+copy crates docs
 change "$page" 's|`grammar/specs/Answer.answer`|`grammar/specs/Answer.answers`|'
 fails 'a definition that is not there' 'answers is not in crates/grammar/specs/Answer.antt' tests/promises.sh
 copy crates docs

@@ -1,6 +1,6 @@
 # shellcheck shell=bash
 log=$room/verdict
-all=$(($(grep -cE '^[a-z_0-9]+:' crates.txt) + $(find crates -path '*/must-fail/*.edit' ! -path '*/code/*' | wc -l)))
+all=$(($(grep -cE '^[a-z_0-9]+:' crates.txt) + $(find crates -path '*/must-fail/*.edit' ! -path '*/must-fail/*/*' | wc -l)))
 
 echo "$all passed, 0 failed" >"$log"
 passes 'a verdict on all' tests/verdict.sh "$log"
@@ -13,7 +13,11 @@ copy crates crates.txt
 mv crates/grammar/must-fail/depth_255.edit crates/grammar/must-fail/depth_255.edit.old
 fails 'a wrong definition that is never tried' 'never tried' tests/verdict.sh "$log"
 copy crates crates.txt
-find crates -path '*/must-fail/*.edit' ! -path '*/code/*' -delete
+mkdir crates/grammar/must-fail/more
+cp crates/grammar/must-fail/depth_255.edit crates/grammar/must-fail/more
+fails 'a wrong definition in a folder that nothing tries' 'not all of' tests/verdict.sh "$log"
+copy crates crates.txt
+find crates -path '*/must-fail/*.edit' ! -path '*/must-fail/*/*' -delete
 fails 'no wrong definition' 'nothing is shown' tests/verdict.sh "$log"
 copy crates crates.txt
 change crates.txt '/^console:/d'
