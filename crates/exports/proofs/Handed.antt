@@ -14,7 +14,7 @@ use Rattle.grammar.specs.declared.Value.{Value}
 use Rattle.grammar.specs.declared.Value.the-variants as Val
 use Rattle.grammar.specs.Values.{spanBytes, textBytes}
 use Rattle.values.specs.Texts.{into, spanPlace, textPlace}
-use Rattle.values.specs.Slots.{InRange, absent, bool, integer, text}
+use Rattle.values.specs.Slots.{InRange, text}
 use Rattle.exports.specs.Boundary.{partWord}
 
 -- ════ What a word says ════
