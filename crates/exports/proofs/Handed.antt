@@ -2,10 +2,10 @@
 use mathlib.Core.Path.{_≡_, refl, sym, ap, _∙_, subst}
 use mathlib.Core.Bool.{Bool, true, false, cond}
 use mathlib.Core.List.{List, []}
-use Prim.Native.Nat.{ℕ, _+_, _*_, _/_, _%_, _≤_, _<_}
+use Prim.Native.Nat.{ℕ, zero, suc, _+_, _*_, _/_, _%_, _≤_, _<_}
 use native.Mathlib.Omega.{arith}
 use native.Mathlib.Nat.{zero-add}
-use lib.Dec.{leb}
+use lib.Dec.{leb, eqb}
 use lib.ListN.{length, take, drop}
 use borrow.Author.Tests.{le-leb, lt-leb, leb-true}
 use denote.Ref.{RefT, now, ptr}
@@ -14,7 +14,8 @@ use Rattle.grammar.specs.declared.Value.{Value}
 use Rattle.grammar.specs.declared.Value.the-variants as Val
 use Rattle.grammar.specs.Values.{spanBytes, textBytes}
 use Rattle.values.specs.Texts.{into, spanPlace, textPlace}
-use Rattle.values.specs.Slots.{InRange, text}
+use Rattle.values.specs.Words.{integerOf}
+use Rattle.values.specs.Slots.{InRange, absent, bool, text, textOf, valueOf}
 use Rattle.exports.specs.Boundary.{partWord}
 
 -- ════ What a word says ════
@@ -88,3 +89,14 @@ module _ (m l : RefT (List ℕ)) where
   part-told (Val.Integer z) r = none (Val.Integer z) refl refl
   part-told (Val.Text s) (text h g) =
       by-test (s .literal) (s .start) (s .length) h g (leb (s .start + s .length) (room (s .literal))) refl
+
+  -- so of every tag and every payload that `styrmflo_text` is given, which are 32-bit numbers
+  pub text-told : (tag payload : ℕ) → payload < 4294967296
+      → Tells m l (partOf (partWord (length (now m)) (length (now l)) (valueOf tag payload))) (valueOf tag payload)
+  unfolding valueOf partWord textBytes textPlace
+  text-told zero payload h = part-told Val.Absent absent
+  text-told (suc zero) payload h = part-told (Val.Bool (eqb payload 1)) (bool (eqb payload 1))
+  text-told (suc (suc zero)) payload h = none (Val.Integer (integerOf payload)) refl refl
+  text-told (suc (suc (suc zero))) payload h = part-told (textOf false payload) (text (omega arith) (omega arith))
+  text-told (suc (suc (suc (suc zero)))) payload h = part-told (textOf true payload) (text (omega arith) (omega arith))
+  text-told (suc (suc (suc (suc (suc tag))))) payload h = part-told Val.Absent absent
