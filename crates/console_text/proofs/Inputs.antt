@@ -1,4 +1,4 @@
--- What the console reads and prints beyond case A, line by line, and the plain meaning's own words for case A: cases that the prover computes, written out by hand from
+-- What the console reads and prints beyond case A, line by line, and the plain meaning's own words for case A: cases that the prover computes, written out from
 -- document 01, 'Listing and console'. Assumes nothing.
 use mathlib.Core.Path.{_≡_, refl}
 use mathlib.Core.List.{List, [], _∷_, _++_, map}
@@ -58,7 +58,9 @@ unfolding inputA spelt numberLine listing headLines bodyLines literalsLine recor
 spelt-a = refl
 
 -- of `a`, `b` and `c`, whose last line isn't ended: no line, one, two, three, and four, which are not there
-pub first-lines : map (λ (n : ℕ). firstLines n (97 ∷ 10 ∷ 98 ∷ 10 ∷ 99 ∷ [])) (0 ∷ 1 ∷ 2 ∷ 3 ∷ 4 ∷ []) ≡ [] ∷ (97 ∷ 10 ∷ []) ∷ (97 ∷ 10 ∷ 98 ∷ 10 ∷ []) ∷ (97 ∷ 10 ∷ 98 ∷ 10 ∷ 99 ∷ []) ∷ (97 ∷ 10 ∷ 98 ∷ 10 ∷ 99 ∷ []) ∷ []
+pub first-lines :
+    map (λ (n : ℕ). firstLines n (97 ∷ 10 ∷ 98 ∷ 10 ∷ 99 ∷ [])) (0 ∷ 1 ∷ 2 ∷ 3 ∷ 4 ∷ [])
+    ≡ [] ∷ (97 ∷ 10 ∷ []) ∷ (97 ∷ 10 ∷ 98 ∷ 10 ∷ []) ∷ (97 ∷ 10 ∷ 98 ∷ 10 ∷ 99 ∷ []) ∷ (97 ∷ 10 ∷ 98 ∷ 10 ∷ 99 ∷ []) ∷ []
 unfolding firstLines
 first-lines = refl
 
@@ -77,16 +79,16 @@ a-line-more = refl
 
 -- ════ The first three lines ════
 
--- '`mode=` (bench or display)'; no byte 10, no mode, another one, another key
+-- '`mode=` (bench or display)'; the third without byte 10
 pub modes :
     map modeLine
-    ((109 ∷ 111 ∷ 100 ∷ 101 ∷ 61 ∷ 98 ∷ 101 ∷ 110 ∷ 99 ∷ 104 ∷ 10 ∷ [])
-    ∷ (109 ∷ 111 ∷ 100 ∷ 101 ∷ 61 ∷ 100 ∷ 105 ∷ 115 ∷ 112 ∷ 108 ∷ 97 ∷ 121 ∷ 10 ∷ [])
-    ∷ (109 ∷ 111 ∷ 100 ∷ 101 ∷ 61 ∷ 98 ∷ 101 ∷ 110 ∷ 99 ∷ 104 ∷ [])
-    ∷ (109 ∷ 111 ∷ 100 ∷ 101 ∷ 61 ∷ 10 ∷ [])
-    ∷ (109 ∷ 111 ∷ 100 ∷ 101 ∷ 61 ∷ 66 ∷ 101 ∷ 110 ∷ 99 ∷ 104 ∷ 10 ∷ [])
-    ∷ (109 ∷ 111 ∷ 100 ∷ 101 ∷ 61 ∷ 100 ∷ 105 ∷ 115 ∷ 112 ∷ 108 ∷ 97 ∷ 121 ∷ 115 ∷ 10 ∷ [])
-    ∷ (98 ∷ 117 ∷ 100 ∷ 103 ∷ 101 ∷ 116 ∷ 61 ∷ 50 ∷ 10 ∷ [])
+    ((109 ∷ 111 ∷ 100 ∷ 101 ∷ 61 ∷ 98 ∷ 101 ∷ 110 ∷ 99 ∷ 104 ∷ 10 ∷ [])  -- `mode=bench`
+    ∷ (109 ∷ 111 ∷ 100 ∷ 101 ∷ 61 ∷ 100 ∷ 105 ∷ 115 ∷ 112 ∷ 108 ∷ 97 ∷ 121 ∷ 10 ∷ [])  -- `mode=display`
+    ∷ (109 ∷ 111 ∷ 100 ∷ 101 ∷ 61 ∷ 98 ∷ 101 ∷ 110 ∷ 99 ∷ 104 ∷ [])  -- `mode=bench`
+    ∷ (109 ∷ 111 ∷ 100 ∷ 101 ∷ 61 ∷ 10 ∷ [])  -- `mode=`
+    ∷ (109 ∷ 111 ∷ 100 ∷ 101 ∷ 61 ∷ 66 ∷ 101 ∷ 110 ∷ 99 ∷ 104 ∷ 10 ∷ [])  -- `mode=Bench`
+    ∷ (109 ∷ 111 ∷ 100 ∷ 101 ∷ 61 ∷ 100 ∷ 105 ∷ 115 ∷ 112 ∷ 108 ∷ 97 ∷ 121 ∷ 115 ∷ 10 ∷ [])  -- `mode=displays`
+    ∷ (98 ∷ 117 ∷ 100 ∷ 103 ∷ 101 ∷ 116 ∷ 61 ∷ 50 ∷ 10 ∷ [])  -- `budget=2`
     ∷ [])
     ≡ M.Is Bench 11 ∷ M.Is Display 13 ∷ M.Wrong ∷ M.Wrong ∷ M.Wrong ∷ M.Wrong ∷ M.Wrong ∷ []
 unfolding modeLine afterKey
@@ -95,13 +97,13 @@ modes = refl
 -- 'Budget is a decimal up to 4294967295, no leading zero'
 pub budgets :
     map (λ (l : List ℕ). budgetAt l 0)
-    ((98 ∷ 117 ∷ 100 ∷ 103 ∷ 101 ∷ 116 ∷ 61 ∷ 48 ∷ 10 ∷ [])
-    ∷ (98 ∷ 117 ∷ 100 ∷ 103 ∷ 101 ∷ 116 ∷ 61 ∷ 52 ∷ 50 ∷ 57 ∷ 52 ∷ 57 ∷ 54 ∷ 55 ∷ 50 ∷ 57 ∷ 53 ∷ 10 ∷ [])
-    ∷ (98 ∷ 117 ∷ 100 ∷ 103 ∷ 101 ∷ 116 ∷ 61 ∷ 52 ∷ 50 ∷ 57 ∷ 52 ∷ 57 ∷ 54 ∷ 55 ∷ 50 ∷ 57 ∷ 54 ∷ 10 ∷ [])
-    ∷ (98 ∷ 117 ∷ 100 ∷ 103 ∷ 101 ∷ 116 ∷ 61 ∷ 48 ∷ 50 ∷ 10 ∷ [])
-    ∷ (98 ∷ 117 ∷ 100 ∷ 103 ∷ 101 ∷ 116 ∷ 61 ∷ 10 ∷ [])
-    ∷ (98 ∷ 117 ∷ 100 ∷ 103 ∷ 101 ∷ 116 ∷ 61 ∷ 50 ∷ 32 ∷ 10 ∷ [])
-    ∷ (114 ∷ 117 ∷ 108 ∷ 101 ∷ 115 ∷ 61 ∷ 50 ∷ 10 ∷ [])
+    ((98 ∷ 117 ∷ 100 ∷ 103 ∷ 101 ∷ 116 ∷ 61 ∷ 48 ∷ 10 ∷ [])  -- `budget=0`
+    ∷ (98 ∷ 117 ∷ 100 ∷ 103 ∷ 101 ∷ 116 ∷ 61 ∷ 52 ∷ 50 ∷ 57 ∷ 52 ∷ 57 ∷ 54 ∷ 55 ∷ 50 ∷ 57 ∷ 53 ∷ 10 ∷ [])  -- `budget=4294967295`
+    ∷ (98 ∷ 117 ∷ 100 ∷ 103 ∷ 101 ∷ 116 ∷ 61 ∷ 52 ∷ 50 ∷ 57 ∷ 52 ∷ 57 ∷ 54 ∷ 55 ∷ 50 ∷ 57 ∷ 54 ∷ 10 ∷ [])  -- `budget=4294967296`
+    ∷ (98 ∷ 117 ∷ 100 ∷ 103 ∷ 101 ∷ 116 ∷ 61 ∷ 48 ∷ 50 ∷ 10 ∷ [])  -- `budget=02`
+    ∷ (98 ∷ 117 ∷ 100 ∷ 103 ∷ 101 ∷ 116 ∷ 61 ∷ 10 ∷ [])  -- `budget=`
+    ∷ (98 ∷ 117 ∷ 100 ∷ 103 ∷ 101 ∷ 116 ∷ 61 ∷ 50 ∷ 32 ∷ 10 ∷ [])  -- `budget=2 `
+    ∷ (114 ∷ 117 ∷ 108 ∷ 101 ∷ 115 ∷ 61 ∷ 50 ∷ 10 ∷ [])  -- `rules=2`
     ∷ [])
     ≡ N.Is 0 9 ∷ N.Is 4294967295 18 ∷ N.Wrong ∷ N.Wrong ∷ N.Wrong ∷ N.Wrong ∷ N.Wrong ∷ []
 unfolding budgetAt afterKey number numberFrom grown digit
@@ -110,22 +112,22 @@ budgets = refl
 -- '`message=` (hex)'
 pub messages :
     map (λ (l : List ℕ). messageAt l 0)
-    ((109 ∷ 101 ∷ 115 ∷ 115 ∷ 97 ∷ 103 ∷ 101 ∷ 61 ∷ 10 ∷ [])
-    ∷ (109 ∷ 101 ∷ 115 ∷ 115 ∷ 97 ∷ 103 ∷ 101 ∷ 61 ∷ 52 ∷ 55 ∷ 51 ∷ 49 ∷ 10 ∷ [])
-    ∷ (109 ∷ 101 ∷ 115 ∷ 115 ∷ 97 ∷ 103 ∷ 101 ∷ 61 ∷ 48 ∷ 97 ∷ 102 ∷ 102 ∷ 10 ∷ [])
+    ((109 ∷ 101 ∷ 115 ∷ 115 ∷ 97 ∷ 103 ∷ 101 ∷ 61 ∷ 10 ∷ [])  -- `message=`
+    ∷ (109 ∷ 101 ∷ 115 ∷ 115 ∷ 97 ∷ 103 ∷ 101 ∷ 61 ∷ 52 ∷ 55 ∷ 51 ∷ 49 ∷ 10 ∷ [])  -- `message=4731`
+    ∷ (109 ∷ 101 ∷ 115 ∷ 115 ∷ 97 ∷ 103 ∷ 101 ∷ 61 ∷ 48 ∷ 97 ∷ 102 ∷ 102 ∷ 10 ∷ [])  -- `message=0aff`
     ∷ [])
     ≡ taking [] (B.Are 0 9) ∷ taking (71 ∷ 49 ∷ []) (B.Are 2 13) ∷ taking (10 ∷ 255 ∷ []) (B.Are 2 13) ∷ []
 unfolding messageAt afterKey pairs pairValue hexValue digit
 messages = refl
 
--- 'all hex is lower-case pairs': upper case, half a pair, a space, no byte 10; another key
+-- 'all hex is lower-case pairs': the fourth without byte 10
 pub no-messages :
     map (λ (l : List ℕ). messageAt l 0 .found)
-    ((109 ∷ 101 ∷ 115 ∷ 115 ∷ 97 ∷ 103 ∷ 101 ∷ 61 ∷ 48 ∷ 65 ∷ 70 ∷ 70 ∷ 10 ∷ [])
-    ∷ (109 ∷ 101 ∷ 115 ∷ 115 ∷ 97 ∷ 103 ∷ 101 ∷ 61 ∷ 52 ∷ 55 ∷ 51 ∷ 10 ∷ [])
-    ∷ (109 ∷ 101 ∷ 115 ∷ 115 ∷ 97 ∷ 103 ∷ 101 ∷ 61 ∷ 52 ∷ 55 ∷ 32 ∷ 51 ∷ 49 ∷ 10 ∷ [])
-    ∷ (109 ∷ 101 ∷ 115 ∷ 115 ∷ 97 ∷ 103 ∷ 101 ∷ 61 ∷ 52 ∷ 55 ∷ 51 ∷ 49 ∷ [])
-    ∷ (108 ∷ 105 ∷ 116 ∷ 101 ∷ 114 ∷ 97 ∷ 108 ∷ 115 ∷ 61 ∷ 52 ∷ 55 ∷ 51 ∷ 49 ∷ 10 ∷ [])
+    ((109 ∷ 101 ∷ 115 ∷ 115 ∷ 97 ∷ 103 ∷ 101 ∷ 61 ∷ 48 ∷ 65 ∷ 70 ∷ 70 ∷ 10 ∷ [])  -- `message=0AFF`
+    ∷ (109 ∷ 101 ∷ 115 ∷ 115 ∷ 97 ∷ 103 ∷ 101 ∷ 61 ∷ 52 ∷ 55 ∷ 51 ∷ 10 ∷ [])  -- `message=473`
+    ∷ (109 ∷ 101 ∷ 115 ∷ 115 ∷ 97 ∷ 103 ∷ 101 ∷ 61 ∷ 52 ∷ 55 ∷ 32 ∷ 51 ∷ 49 ∷ 10 ∷ [])  -- `message=47 31`
+    ∷ (109 ∷ 101 ∷ 115 ∷ 115 ∷ 97 ∷ 103 ∷ 101 ∷ 61 ∷ 52 ∷ 55 ∷ 51 ∷ 49 ∷ [])  -- `message=4731`
+    ∷ (108 ∷ 105 ∷ 116 ∷ 101 ∷ 114 ∷ 97 ∷ 108 ∷ 115 ∷ 61 ∷ 52 ∷ 55 ∷ 51 ∷ 49 ∷ 10 ∷ [])  -- `literals=4731`
     ∷ [])
     ≡ B.Wrong ∷ B.Wrong ∷ B.Wrong ∷ B.Wrong ∷ B.Wrong ∷ []
 unfolding messageAt afterKey pairs pairValue hexValue digit

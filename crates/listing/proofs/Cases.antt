@@ -1,5 +1,5 @@
--- Listings byte by byte: cases that the prover computes, written out by hand from document 01, 'Listing and console'. The laws of Exactly tie reading to writing; a slip
--- made alike in both is refused here alone. Assumes nothing.
+-- Listings byte by byte: cases that the prover computes, written out from document 01, 'Listing and console'. The laws of Exactly tie reading to writing; a slip made
+-- alike in both is refused here alone. Assumes nothing.
 use mathlib.Core.Path.{_≡_, refl}
 use mathlib.Core.List.{List, [], _∷_, _++_, map}
 use Prim.Native.Nat.{ℕ, _+_, _-_}
