@@ -18,8 +18,8 @@ set -euo pipefail
 here=$(cd "$(dirname "$0")" && pwd)
 top=$(dirname "$here")
 page=docs/MEANING.md
-# those that this script looks at; grammar's wrong definitions are rt's own
-believed='laws text values listing exports console_text'
+# those that this script looks at, the longest first; grammar's wrong definitions are rt's own
+believed='console_text listing exports text laws values'
 
 # The crate without its functions, and what the prover is to read of other crates: those that it names.
 prepare() { # CRATE FOLDER
