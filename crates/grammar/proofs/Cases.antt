@@ -28,6 +28,7 @@ use Rattle.grammar.specs.Types as T
 use Rattle.grammar.specs.Values as L
 use Rattle.grammar.specs.Values.{textBytes, Evaluated, value, ends, present, lookLeft, operate, negated}
 use Rattle.grammar.specs.Run as R
+use Rattle.grammar.specs.Run.{Applied, matched, failed, ended, judged}
 use Rattle.grammar.specs.Answer as A
 use Rattle.grammar.specs.Answer.{number, place, check, typeCheck, answered, answer}
 use Rattle.grammar.proofs.Bench.{records, body, returning, empty, terminal, sequence, bind, constraint, integer, bool, slot, update, add, equal, tableA}
@@ -308,3 +309,14 @@ pub not-and-slots :
     ≡ says false ∷ says true ∷ isStuck ∷ isStuck ∷ value (part true 0 1) ∷ []
 unfolding negated
 not-and-slots = refl
+
+-- a constraint, node 7, at position 5: 'a constraint isn't Bool (the constraint)'
+abbrev judge : Value → Applied
+judge v = judged 7 v 5 [] (record { visits = 1 })
+
+pub constraints :
+    judge (Val.Bool true) ∷ judge (Val.Bool false) ∷ judge (Val.Integer (pos 1)) ∷ judge (part true 0 1) ∷ judge Val.Absent ∷ []
+    ≡ matched 5 [] (record { visits = 1 }) ∷ failed [] (record { visits = 1 })
+    ∷ ended Stuck 7 (record { visits = 1 }) ∷ ended Stuck 7 (record { visits = 1 }) ∷ ended Stuck 7 (record { visits = 1 }) ∷ []
+unfolding judged
+constraints = refl
