@@ -5,6 +5,10 @@ pub mod Found
 pub mod Whole
 pub mod Fills
 pub mod Back
+pub mod FirstLines
+pub mod Stopping
+pub mod RightLines
+pub mod Telling
 pub mod Exactly
 pub mod Unique
 pub mod Cases

@@ -1,6 +1,6 @@
 -- What reading a listing answers, and what the two slices hold then (document 01, 'Listing and console'), line by line. The listing stands in the
 -- text from a place on, to the text's end, and `first` is the number of its first line. Plain.antt says of the whole which texts are
--- accepted. Assumes nothing.
+-- accepted, when ROOM comes, and which line is told. Assumes nothing.
 use mathlib.Core.List.{List, [], _∷_}
 use mathlib.Core.Bool.{Bool, cond, _&&_}
 use Prim.Native.Nat.{ℕ, zero, suc, _+_, _*_}
