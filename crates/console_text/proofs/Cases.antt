@@ -21,10 +21,10 @@ use Rattle.text.specs.Found.{afterKey, digit, grown, numberFrom, number, hexVal
 use Rattle.text.specs.Written.{digits, decimal, signedDecimal, hexDigit, hex}
 use Rattle.listing.specs.Listing.{ending}
 use Rattle.listing.specs.Reading.{numbersAt, lineAt, linesAt, countAt, literalsAt, headAt, bodyAt}
+use Rattle.listing.specs.Plain.{firstLines}
 use Rattle.console_text.specs.Asked.{modeLine, budgetAt, messageAt, tableAt, said}
 use Rattle.console_text.specs.Printed.{numberLine, textText, valueText, valueLine, numberLines, valueLines, answerLines}
 use Rattle.console_text.specs.Console.{longestInput, answerTo, consoleAnswer, printed, consoleText}
-use Rattle.console_text.specs.Plain.{firstLines}
 
 -- ════ Case A ════
 

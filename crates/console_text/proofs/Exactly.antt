@@ -4,11 +4,10 @@ use mathlib.Core.Logic.{_↔_}
 use mathlib.Core.List.{List, [], _∷_, _++_, append-nil}
 use Prim.Native.Nat.{ℕ, _+_, _≤_, _<_}
 use native.Mathlib.Omega.{arith}
-use lib.ListN.{length, take, drop, replicate, length-replicate}
-use lib.Seq.{drop-length, take-append-seam}
+use lib.ListN.{length, drop, replicate, length-replicate}
+use lib.Seq.{drop-length}
 use Rattle.laws.specs.Below.{AllBelow}
 use Rattle.laws.specs.Parts.{Stands, stands, stands-then, stands-first, stands-second}
-use Rattle.laws.specs.Stores.{over}
 use Rattle.grammar.specs.declared.Mode.{Mode}
 use Rattle.grammar.specs.declared.Mode.the-variants.{Bench, Display}
 use Rattle.text.specs.declared.Place.{Place}
@@ -27,7 +26,7 @@ use Rattle.listing.specs.declared.Reading.the-variants.{Done, Line}
 use Rattle.listing.specs.Listing.{listing}
 use Rattle.listing.specs.Reading.{keyAt, Filled, fill, readFrom}
 use Rattle.listing.specs.Plain as Listing
-use Rattle.listing.proofs.Exactly.{accepted-exactly as listing-exactly}
+use Rattle.listing.proofs.Exactly.{front-is, told, accepted-exactly as listing-exactly}
 use Rattle.console_text.specs.declared.request.ModeLine.{ModeLine}
 use Rattle.console_text.specs.declared.request.ModeLine.the-variants as M
 use Rattle.console_text.specs.Asked.{benchLine, displayLine, budgetKey, messageKey, Said, says, wrongLine, onSaid, onMode, Table, Asked, modeLine, budgetAt, messageAt, tableAt, fromFourth, fromThird, fromSecond, said}
@@ -45,13 +44,6 @@ record Room (n : ℕ) : Type 0 where
 
 room : (n : ℕ) → Room n
 room n = record { slice = replicate n 0; long = omega (arith, length-replicate {A = ℕ} n 0) }
-
--- a slice with a list in front tells the list, given its length
-front-is : (a b l : List ℕ) → length a ≡ length b → over a l ≡ over b l → a ≡ b
-unfolding over
-front-is a b l n e =
-    sym (take-append-seam a (drop (length a) l)) ∙ ap (take (length a)) e ∙ ap (λ (z : ℕ). take z (over b l)) n
-    ∙ take-append-seam b (drop (length b) l)
 
 same-table : (t u : Table) → t .words ≡ u .words → t .literals ≡ u .literals → t ≡ u
 same-table t u e f =
@@ -105,6 +97,15 @@ module _ (input : List ℕ) where
 
   table-back : (p : ℕ) (t : Table) → Table-spelt input p t → tableAt input p ≡ says t
   table-back p t = table-back-in input p t (room (tableWords + length (t .words))) (room (tableLiterals + length (t .literals)))
+
+  -- a wrong line of the listing is told by its number in the input
+  pub table-wrong : (p m : ℕ) → tableAt input p ≡ wrongLine m → (n : ℕ) × (m ≡ 4 + n) × Listing.FirstWrong Listing.IsListing (drop p input) n
+  table-wrong p m e =
+      let words = room tableWords in
+      let literals = room tableLiterals in
+      let t = told input p 4 m (words .slice) (literals .slice)
+      (read-says input p (words .slice) (literals .slice) (words .long) (literals .long) ∙ ap (readSaid (words .slice) (literals .slice)) e) in
+      (t .0, t .1, t .2)
 
   -- ════ The first two lines: what is found stands there (Tables.antt has it of the third) ════
 

@@ -5,10 +5,6 @@ pub mod Lengths
 pub mod Responding
 pub mod Exactly
 pub mod Cases
-pub mod FirstLines
-pub mod Completing
-pub mod Stopping
-pub mod Records
 pub mod Line
 pub mod Inputs
 pub mod Unique

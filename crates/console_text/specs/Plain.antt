@@ -3,14 +3,13 @@
 use mathlib.Core.Path.{_≡_}
 use mathlib.Core.Logic.{_≢_, _↔_}
 use mathlib.Core.List.{List, [], _∷_, _++_}
-use mathlib.Core.Bool.{cond}
-use Prim.Native.Nat.{ℕ, zero, suc, _<_}
-use lib.Dec.{eqb}
+use Prim.Native.Nat.{ℕ, suc, _<_}
 use Rattle.laws.specs.Below.{AllBelow}
 use Rattle.grammar.specs.declared.Mode.{Mode}
 use Rattle.grammar.specs.declared.Mode.the-variants.{Bench, Display}
 use Rattle.text.specs.Written.{hex}
 use Rattle.listing.specs.Listing.{listing}
+use Rattle.listing.specs.Plain.{firstLines}
 use Rattle.listing.specs.Plain as Listing
 use Rattle.console_text.specs.Asked.{benchLine, displayLine, budgetKey, messageKey, says, wrongLine, Asked, said}
 use Rattle.console_text.specs.Printed.{numberLine}
@@ -42,12 +41,6 @@ abbrev pub AcceptedExactly : Type 0
 AcceptedExactly = (input : List ℕ) (a : Asked) → (said input ≡ says a) ↔ (Right a × (input ≡ spelt a))
 
 -- ════ The line that is told of any other ════
-
--- the first n lines, each with the byte 10 that ends it; what follows the last byte 10 is a line too
-unfoldable pub firstLines : ℕ → List ℕ → List ℕ
-firstLines zero l = []
-firstLines (suc n) [] = []
-firstLines (suc n) (b ∷ l) = b ∷ cond (eqb b 10) (firstLines n l) (firstLines (suc n) l)
 
 -- Line n + 1 is the first that no right input has there: some right input has the n lines before it, and none has these and then the same line. So a
 -- line that is missing is wrong, and any after the last: 'Bytes past the last line count as one more line, which is wrong'
