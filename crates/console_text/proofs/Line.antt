@@ -20,7 +20,7 @@ use Rattle.listing.specs.Listing.{listing}
 use Rattle.listing.specs.Plain.{firstLines, IsListing}
 use Rattle.listing.specs.Plain as Listing
 use Rattle.listing.proofs.FirstLines.{Whole, inside, decimal-line, hex-line}
-use Rattle.listing.proofs.Stopping.{Line-then, Some, some-line, same-wrong, one-first, Told, stops-here, goes-on}
+use Rattle.listing.proofs.Stopping.{Line-then, Some, some-line, same-wrong, one-first, Told, stops-here, told-after}
 use Rattle.listing.proofs.RightLines.{some-listing}
 use Rattle.console_text.specs.declared.request.ModeLine.{ModeLine}
 use Rattle.console_text.specs.declared.request.ModeLine.the-variants as M
@@ -69,9 +69,9 @@ IsSpelt input = (a : Asked) × Right a × (input ≡ spelt a)
 lines-spelt : (input : List ℕ) → FromFirst input → IsSpelt input
 unfolding spelt
 lines-spelt input m =
-    let b = m .goes-on in
-    let s = b .goes-on in
-    let t = s .goes-on in (
+    let b = m .follows in
+    let s = b .follows in
+    let t = s .follows in (
       record { mode = m .says; budget = b .says; message = s .says; table = record { words = t .tableWords; literals = t .tableLiterals } },
       record { budget-fits = b .right; message-fits = s .right; table = t .table },
       m .is ∙ ap (λ (z : List ℕ). modeSpelt (m .says) ++ z)
@@ -88,17 +88,17 @@ spelt-lines input (a, r, e) =
       right = tt;
       rest = numberLine budgetKey (a .budget) ++ three;
       is = e;
-      goes-on = record {
+      follows = record {
         says = a .budget;
         right = r .budget-fits;
         rest = three;
         is = refl;
-        goes-on = record {
+        follows = record {
           says = a .message;
           right = r .message-fits;
           rest = four;
           is = refl;
-          goes-on = record { tableWords = a .table .words; tableLiterals = a .table .literals; table = r .table; is = refl };
+          follows = record { tableWords = a .table .words; tableLiterals = a .table .literals; table = r .table; is = refl };
         };
       };
     }
@@ -126,7 +126,7 @@ module _ (input : List ℕ) where
       go : (s : Bytes) → messageAt input p .found ≡ s → Told FromThird (drop p input) 3 (from s)
       go (B.Are n q) e =
           let w = message-found input p n q e in
-          goes-on message-whole input p q 3 (messageAt input p .numbers) (w .all) (w .part) (λ b t r f g. g) (from (B.Are n q))
+          told-after message-whole input p q 3 (messageAt input p .numbers) (w .all) (w .part) (λ b t r f g. g) (from (B.Are n q))
           (λ h. table-told (λ t. record { mode = mode; budget = budget; message = messageAt input p .numbers; table = t }) q)
       go B.Wrong e =
           stops-here message-whole input p 3 some-third (λ m q r s.
@@ -143,7 +143,7 @@ module _ (input : List ℕ) where
       go : (s : Number) → budgetAt input p ≡ s → Told FromSecond (drop p input) 2 (from s)
       go (N.Is budget q) e =
           let w = budget-found input p budget q e in
-          goes-on budget-whole input p q 2 budget (w .fits) (w .part) (λ b t r f g. g) (from (N.Is budget q)) (λ h. message-told mode budget q)
+          told-after budget-whole input p q 2 budget (w .fits) (w .part) (λ b t r f g. g) (from (N.Is budget q)) (λ h. message-told mode budget q)
       go N.Wrong e =
           stops-here budget-whole input p 2 some-second (λ budget q r s.
           let f = sym e ∙ budget-back input p budget q r s in
@@ -159,7 +159,7 @@ module _ (input : List ℕ) where
 
       go : (s : ModeLine) → modeLine input ≡ s → Told FromFirst input 1 (from s)
       go (M.Is mode q) e =
-          goes-on mode-whole input 0 q 1 mode tt (mode-found input mode q e) (λ b t r f g. g) (from (M.Is mode q)) (λ h. budget-told mode q)
+          told-after mode-whole input 0 q 1 mode tt (mode-found input mode q e) (λ b t r f g. g) (from (M.Is mode q)) (λ h. budget-told mode q)
       go M.Wrong e =
           stops-here mode-whole input 0 1 some-first (λ mode q r s.
           let f = sym e ∙ mode-back input mode q s in

@@ -145,9 +145,9 @@ module _ (text : List ℕ) (at first : ℕ) (words literals : List ℕ) where
 
 -- ════ Every text is judged ════
 
-pub judged : (text : List ℕ) (at first : ℕ) (words literals : List ℕ) → Judged text at first words literals (readFrom text at first words literals)
+pub each-judged : (text : List ℕ) (at first : ℕ) (words literals : List ℕ) → Judged text at first words literals (readFrom text at first words literals)
 unfolding readFrom readRest listing headLines
-judged text at first words literals = heads (headAt text first at .found) refl
+each-judged text at first words literals = heads (headAt text first at .found) refl
   where
     tableLiterals : List ℕ
     tableLiterals = headAt text first at .numbers
@@ -204,7 +204,7 @@ pub record Accepted (text : List ℕ) (at first : ℕ) (words literals : List �
 
 pub accepted : (text : List ℕ) (at first : ℕ) (words literals : List ℕ) (m n : ℕ) → readFrom text at first words literals .answer ≡ Done m n
     → Accepted text at first words literals (readFrom text at first words literals)
-accepted text at first words literals m n e = go (readFrom text at first words literals) (judged text at first words literals) e
+accepted text at first words literals m n e = go (readFrom text at first words literals) (each-judged text at first words literals) e
   where
     go : (f : Filled) → Judged text at first words literals f → f .answer ≡ Done m n → Accepted text at first words literals f
     go f (isListed w l x i) g = record { tableWords = w; tableLiterals = l; listed = x; result-is = i }
@@ -242,7 +242,7 @@ apart i e n = absurd (n (ap (λ (z : Filled). readingNumber (z .answer)) (sym i 
 
 pub room-exactly : RoomExactly
 unfolding readingNumber
-room-exactly text at first words literals = (λ e. there (readFrom text at first words literals) (judged text at first words literals) e, back)
+room-exactly text at first words literals = (λ e. there (readFrom text at first words literals) (each-judged text at first words literals) e, back)
   where
     there : (f : Filled) → Judged text at first words literals f → f ≡ filled Room words literals → NoRoom (drop at text) words literals
     there f (hasNoRoom x i) e = x
@@ -250,7 +250,7 @@ room-exactly text at first words literals = (λ e. there (readFrom text at first
     there f (isWrongAt n x y i) e = apart i e (λ z. omega arith)
 
     back : NoRoom (drop at text) words literals → readFrom text at first words literals ≡ filled Room words literals
-    back x = go (readFrom text at first words literals) (judged text at first words literals)
+    back x = go (readFrom text at first words literals) (each-judged text at first words literals)
       where
         go : (f : Filled) → Judged text at first words literals f → f ≡ filled Room words literals
         go f (hasNoRoom y i) = i
@@ -265,7 +265,7 @@ room-exactly text at first words literals = (λ e. there (readFrom text at first
 pub told : (text : List ℕ) (at first m : ℕ) (words literals : List ℕ) → readFrom text at first words literals ≡ filled (Line m) words literals
     → (n : ℕ) × (m ≡ first + n) × FirstWrong IsListing (drop at text) n × (NoRoom (drop at text) words literals → ⊥)
 unfolding readingNumber readingPlace
-told text at first m words literals = go (readFrom text at first words literals) (judged text at first words literals)
+told text at first m words literals = go (readFrom text at first words literals) (each-judged text at first words literals)
   where
     go : (f : Filled) → Judged text at first words literals f → f ≡ filled (Line m) words literals
         → (n : ℕ) × (m ≡ first + n) × FirstWrong IsListing (drop at text) n × (NoRoom (drop at text) words literals → ⊥)
@@ -285,7 +285,7 @@ line-exactly text at first n words literals = (there, λ x. back (x .0) (x .1))
 
     back : FirstWrong IsListing (drop at text) n → (NoRoom (drop at text) words literals → ⊥)
         → readFrom text at first words literals ≡ filled (Line (first + n)) words literals
-    back x room = go (readFrom text at first words literals) (judged text at first words literals)
+    back x room = go (readFrom text at first words literals) (each-judged text at first words literals)
       where
         go : (f : Filled) → Judged text at first words literals f → f ≡ filled (Line (first + n)) words literals
         go f (isWrongAt m y r i) =

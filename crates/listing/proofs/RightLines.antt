@@ -41,9 +41,7 @@ FromSecond rules = Line-then (λ n. line nodesKey (n ∷ [])) (Between 1 1024) (
 abbrev pub FromFirst : List ℕ → Type 0
 FromFirst = Line-then (λ n. line rulesKey (n ∷ [])) (Between 1 64) (λ rules. FromSecond rules)
 
--- ════ Each may go on ════
-
--- one rule, one node, no literals, and records of zeros
+-- ════ Each may go on: with one rule, one node, no literals, and records of zeros ════
 
 abbrev pub zeros : ℕ → List ℕ
 zeros n = replicate n 0
@@ -79,14 +77,14 @@ record Records-say (key : List ℕ) (width count : ℕ) (Rest : List ℕ → Typ
   count-is : length words ≡ count * width
   all : AllBelow 65536 words
   is : text ≡ recordLines key width count words ++ rest
-  goes-on : Rest rest
+  follows : Rest rest
 
 records-say : (key : List ℕ) (width count : ℕ) {Rest : List ℕ → Type 0} (text : List ℕ) → Records key width count Rest text
     → Records-say key width count Rest text
 unfolding recordLines
-records-say key width zero text r = record { words = []; rest = text; count-is = omega arith; all = tt; is = refl; goes-on = r }
+records-say key width zero text r = record { words = []; rest = text; count-is = omega arith; all = tt; is = refl; follows = r }
 records-say key width (suc count) text r =
-    let s = records-say key width count (r .rest) (r .goes-on) in
+    let s = records-say key width count (r .rest) (r .follows) in
     let a : List ℕ = r .says in
     let b : List ℕ = s .words in
     record {
@@ -96,7 +94,7 @@ records-say key width (suc count) text r =
       all = below-append 65536 a b (r .right .1) (s .all);
       is = rw (take-at a b width (r .right .0), drop-at a b width (r .right .0))
           (r .is ∙ ap (λ (z : List ℕ). line key a ++ z) (s .is) ∙ sym (append-assoc (line key a) (recordLines key width count b) (s .rest)));
-      goes-on = s .goes-on;
+      follows = s .follows;
     }
 
 -- the lines of the records, of the words after the first three
@@ -131,10 +129,10 @@ regroup r k l x y = simp (append-assoc, append-nil)
 pub lines-listing : (text : List ℕ) → FromFirst text → IsListing text
 unfolding listing headLines
 lines-listing text r =
-    let k = r .goes-on in
-    let l = k .goes-on in
-    let a = records-say ruleKey 15 (r .says) (l .rest) (l .goes-on) in
-    let b = records-say nodeKey 10 (k .says) (a .rest) (a .goes-on) in
+    let k = r .follows in
+    let l = k .follows in
+    let a = records-say ruleKey 15 (r .says) (l .rest) (l .follows) in
+    let b = records-say nodeKey 10 (k .says) (a .rest) (a .follows) in
     let words : List ℕ = r .says ∷ k .says ∷ length (l .says) ∷ (a .words ++ b .words) in
     let one : List ℕ = line rulesKey (r .says ∷ []) in
     let two : List ℕ = line nodesKey (k .says ∷ []) in
@@ -151,7 +149,7 @@ lines-listing text r =
           (length-append (a .words) (b .words) ∙ omega (arith, a .count-is, b .count-is)) (below-append 65536 (a .words) (b .words) (a .all) (b .all));
       is = r .is ∙ ap (λ (z : List ℕ). one ++ z)
           (k .is ∙ ap (λ (z : List ℕ). two ++ z)
-          (l .is ∙ ap (λ (z : List ℕ). three ++ z) (a .is ∙ ap (λ (z : List ℕ). x ++ z) (b .is ∙ ap (λ (z : List ℕ). y ++ z) (b .goes-on)))))
+          (l .is ∙ ap (λ (z : List ℕ). three ++ z) (a .is ∙ ap (λ (z : List ℕ). x ++ z) (b .is ∙ ap (λ (z : List ℕ). y ++ z) (b .follows)))))
           ∙ regroup one two three x y ∙ ap (λ (z : List ℕ). (one ++ (two ++ three)) ++ z) (sym body);
     }
 
@@ -170,7 +168,7 @@ records-lines key width (suc count) Rest words rest h g r =
       right = (length-take-le width words (omega arith), below-take 65536 width words g);
       rest = recordLines key width count (drop width words) ++ rest;
       is = append-assoc (line key (take width words)) (recordLines key width count (drop width words)) rest;
-      goes-on = records-lines key width count Rest (drop width words) rest (omega (arith, length-drop width words)) (below-drop 65536 width words g) r;
+      follows = records-lines key width count Rest (drop width words) rest (omega (arith, length-drop width words)) (below-drop 65536 width words g) r;
     }
 
 pub listing-lines : (text : List ℕ) → IsListing text → FromFirst text
@@ -191,17 +189,17 @@ listing-lines text i =
       right = (s .rules-least, s .rules-most);
       rest = line nodesKey (nodes ∷ []) ++ (literalsLine literals ++ (x ++ y));
       is = i .is ∙ simp append-assoc;
-      goes-on = record {
+      follows = record {
         says = nodes;
         right = (s .nodes-least, s .nodes-most);
         rest = literalsLine literals ++ (x ++ y);
         is = refl;
-        goes-on = record {
+        follows = record {
           says = literals;
           right = (omega (arith, s .literals-are, s .literals-most), i .table .literals-fit);
           rest = x ++ y;
           is = refl;
-          goes-on = records-lines ruleKey 15 rules (Records nodeKey 10 nodes End) (drop (ruleStart 0) words) y (omega (arith, s .words-are, length-drop (ruleStart 0) words))
+          follows = records-lines ruleKey 15 rules (Records nodeKey 10 nodes End) (drop (ruleStart 0) words) y (omega (arith, s .words-are, length-drop (ruleStart 0) words))
               (below-drop 65536 (ruleStart 0) words (i .table .words-fit)) last;
         };
       };

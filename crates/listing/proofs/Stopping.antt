@@ -18,7 +18,7 @@ pub record Line-then {A : Type 0} (spell : A → List ℕ) (Right : A → Type 0
   pub right : Right says
   pub rest : List ℕ
   pub is : text ≡ spell says ++ rest
-  pub goes-on : Rest says rest
+  pub follows : Rest says rest
 
 -- nothing after
 abbrev pub End : List ℕ → Type 0
@@ -29,7 +29,7 @@ Some Right = (t : List ℕ) × Right t
 
 pub some-line : {A : Type 0} {spell : A → List ℕ} {Right : A → Type 0} {Rest : A → List ℕ → Type 0} (a : A) → Right a → Some (Rest a)
     → Some (Line-then spell Right Rest)
-some-line {A} {spell} a r (t, g) = (spell a ++ t, record { says = a; right = r; rest = t; is = refl; goes-on = g })
+some-line {A} {spell} a r (t, g) = (spell a ++ t, record { says = a; right = r; rest = t; is = refl; follows = g })
 
 -- ════ The first wrong line ════
 
@@ -78,22 +78,22 @@ module _ {A : Type 0} {spell : A → List ℕ} {Right : A → Type 0} {Rest : A 
       record {
         some-right = (
           spell a ++ s .0,
-          record { says = a; right = r; rest = s .0; is = refl; goes-on = s .1 },
+          record { says = a; right = r; rest = s .0; is = refl; follows = s .1 },
           w .lines n (s .0) ∙ ap (λ (z : List ℕ). spell a ++ z) (s .2) ∙ sym (w .lines n rest),
         );
         none-right = λ t v e.
             let b = whole-begins w t rest (first-fewer 1 (suc (n + 1)) t (spell a ++ rest) (omega arith) e) in
             let c : suc n + 1 ≡ suc (n + 1) = omega arith in
             let i = whole-same (b .0) (v .rest) w (whole (v .says) (v .right)) (sym (b .1) ∙ v .is) in
-            let g : Rest a (b .0) = same (v .says) (b .0) (v .right) (i .0) (subst (Rest (v .says)) (sym (i .1)) (v .goes-on)) in
+            let g : Rest a (b .0) = same (v .says) (b .0) (v .right) (i .0) (subst (Rest (v .says)) (sym (i .1)) (v .follows)) in
             f .none-right (b .0) g (whole-next w (suc n) (b .0) rest (rw c (sym (ap (firstLines (suc (n + 1))) (b .1)) ∙ e)));
       }
 
-  -- the place after the line is in the text, or at its end
-  pub goes-on : (text : List ℕ) (p q first : ℕ) (a : A) → Right a → Stands text p (spell a) q
+  -- the text has this line: what is told of those after it is told of the whole. The place after the line is in the text, or at its end
+  pub told-after : (text : List ℕ) (p q first : ℕ) (a : A) → Right a → Stands text p (spell a) q
       → ((b : A) (t : List ℕ) → Right b → spell a ≡ spell b → Rest b t → Rest a t) → (found : Lines)
       → (q ≤ length text → Told (Rest a) (drop q text) (first + 1) found) → Told (Line-then spell Right Rest) (drop p text) first found
-  goes-on text p q first a r s same found then = go found (then inside)
+  told-after text p q first a r s same found then = go found (then inside)
     where
       inside : q ≤ length text
       inside =

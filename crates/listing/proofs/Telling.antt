@@ -27,7 +27,7 @@ use Rattle.listing.specs.Plain.{FirstWrong, IsListing}
 use Rattle.listing.proofs.Found.{line-found, count-found, literals-found}
 use Rattle.listing.proofs.Back.{line-back, count-back, literals-back}
 use Rattle.listing.proofs.FirstLines.{Whole, Inside, inside, line-whole, literals-whole}
-use Rattle.listing.proofs.Stopping.{Line-then, End, Some, same-wrong, Told, stops-here, goes-on, stops-past}
+use Rattle.listing.proofs.Stopping.{Line-then, End, Some, same-wrong, Told, stops-here, told-after, stops-past}
 use Rattle.listing.proofs.RightLines.{Numbers, Between, Records, FromFourth, FromThird, FromFirst, some-records, some-nodes, some-third, some-second, some-first, lines-listing, listing-lines}
 
 -- ════ A line with a number that keeps a range ════
@@ -36,6 +36,7 @@ module _ (key : List ℕ) (low high : ℕ) (in-line : Inside key) (small : high 
   count-spelt : (text : List ℕ) (p v q : ℕ) → Between low high v → Stands text p (line key (v ∷ [])) q → countAt text key low high p ≡ N.Is v q
   count-spelt text p v q r s = count-back text key low high v p q (omega (arith, r .1)) (within-right low high v (r .0) (r .1)) s
 
+  -- a line says one number
   one-count : (v w : ℕ) → Between low high v → Between low high w → line key (v ∷ []) ≡ line key (w ∷ []) → w ≡ v
   one-count v w r s e =
       let l : List ℕ = line key (v ∷ []) in
@@ -45,6 +46,7 @@ module _ (key : List ℕ) (low high : ℕ) (in-line : Inside key) (small : high 
       cc
 
   module _ (text : List ℕ) (p first : ℕ) (Rest : ℕ → List ℕ → Type 0) (some : Some (Line-then (λ n. line key (n ∷ [])) (Between low high) Rest)) where
+    -- `next` is what comes of the number that is found
     count-told : (next : Number → Lines) → next N.Wrong ≡ L.Wrong first
         → ((v q : ℕ) → q ≤ length text → Told (Rest v) (drop q text) (first + 1) (next (N.Is v q)))
         → Told (Line-then (λ n. line key (n ∷ [])) (Between low high) Rest) (drop p text) first (next (countAt text key low high p))
@@ -56,7 +58,7 @@ module _ (key : List ℕ) (low high : ℕ) (in-line : Inside key) (small : high 
         go : (s : Number) → countAt text key low high p ≡ s → Told (Line-then (λ n. line key (n ∷ [])) (Between low high) Rest) (drop p text) first (next s)
         go (N.Is v q) e =
             let w = count-found text key low high p v q e in
-            goes-on whole text p q first v (w .least, w .most) (w .part)
+            told-after whole text p q first v (w .least, w .most) (w .part)
             (λ b t r f g. subst (λ (z : ℕ). Rest z t) (one-count v b (w .least, w .most) r f) g) (next (N.Is v q)) (then v q)
         go N.Wrong e =
             rw wrong
@@ -71,6 +73,7 @@ module _
     (text key : List ℕ) (width : ℕ) (in-line : Inside key) (wide : 0 < width)
     (Rest : List ℕ → Type 0) (some : Some Rest) (next : Lines → Lines) (wrong : (m : ℕ) → next (L.Wrong m) ≡ L.Wrong m)
   where
+    -- a wrong one among them is told; else what comes after them
     lines-told : (count n p : ℕ) → p ≤ length text → ((q : ℕ) → q ≤ length text → Told Rest (drop q text) (n + count) (next (L.At q)))
         → Told (Records key width count Rest) (drop p text) n (next (linesAt text key width count n p .found))
     unfolding linesAt
@@ -86,7 +89,7 @@ module _
             → Told (Records key width (suc count) Rest) (drop p text) n (next (onPlace (taking [] (L.Wrong n)) (λ x. linesAt text key width count (n + 1) x) s .found))
         go (P.At x) f ih =
             let w = line-found text key width p x f in
-            goes-on whole text p x n (lineAt text key width p .numbers) (w .count, w .all) (w .part) (λ b t r e g. g)
+            told-after whole text p x n (lineAt text key width p .numbers) (w .count, w .all) (w .part) (λ b t r e g. g)
             (next (linesAt text key width count (n + 1) x .found)) (ih x)
         go P.Wrong f ih =
             rw (wrong n)
@@ -123,7 +126,7 @@ module _ (text : List ℕ) where
       go : (s : Bytes) → literalsAt text p .found ≡ s → Told (FromThird rules nodes) (drop p text) first (next s)
       go (B.Are n q) e =
           let w = literals-found text p n q e in
-          goes-on (λ l r. literals-whole l) text p q first (literalsAt text p .numbers) (omega (arith, w .count, w .most), w .all) (w .part)
+          told-after (λ l r. literals-whole l) text p q first (literalsAt text p .numbers) (omega (arith, w .count, w .most), w .all) (w .part)
           (λ b t r f g. g) (next (B.Are n q)) (then n q)
       go B.Wrong e =
           rw wrong
