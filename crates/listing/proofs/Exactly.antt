@@ -4,7 +4,7 @@ use mathlib.Core.Path.{_≡_, refl, sym, ap, _∙_, subst}
 use mathlib.Core.Logic.{_⊎_, inl, inr, ⊎-elim}
 use mathlib.Core.List.{List, [], _∷_, _++_, append-nil}
 use mathlib.Core.Bool.{Bool, true, false, cond}
-use Prim.Native.Nat.{ℕ, _+_, _*_, _≤_, _<_}
+use Prim.Native.Nat.{ℕ, suc, _+_, _*_, _≤_, _<_}
 use native.Mathlib.Omega.{arith}
 use lib.Dec.{ltb}
 use lib.ListN.{length, take, drop, getD, length-append, length-drop}
@@ -30,7 +30,7 @@ use Rattle.laws.specs.Range.{within-right}
 use Rattle.table.proofs.Size.{Sized, size-facts}
 use Rattle.listing.proofs.Whole.{head-found, body-found}
 use Rattle.listing.proofs.Back.{head-back, body-back}
-use Rattle.listing.proofs.FirstLines.{whole-first, whole-begins, head-whole}
+use Rattle.listing.proofs.FirstLines.{first-fewer, whole-first, whole-begins, head-whole}
 use Rattle.listing.proofs.Stopping.{one-first}
 use Rattle.listing.proofs.RightLines.{zeros, zeros-fit, zeros-length, body-words, table-right}
 use Rattle.listing.proofs.Telling.{fromHead, line-told}
@@ -293,6 +293,14 @@ line-exactly text at first n words literals = (there, λ x. back (x .0) (x .1))
             i ∙ ap (λ (z : ℕ). filled (Line (first + z)) words literals) j
         go f (hasNoRoom y i) = absurd (room y)
         go f (isListed w l y i) = absurd (x .none-right (drop at text) (record { tableWords = w; tableLiterals = l; table = y .table; is = y .is }) refl)
+
+-- where there is no room, a wrong line comes after the third: 'ROOM is judged after line 3'
+pub after-third : {text words literals : List ℕ} (n : ℕ) → NoRoom text words literals → FirstWrong IsListing text n → 3 ≤ n
+after-third {text} n x f =
+    let t : List ℕ = listing (x .tableWords) (x .tableLiterals) in
+    let i : IsListing t = record { tableWords = x .tableWords; tableLiterals = x .tableLiterals; table = x .table; is = refl } in
+    let no : n < 3 → ⊥ = λ h. f .none-right t i (first-fewer (suc n) 3 t text h (x .begins)) in
+    omega arith
 
 -- ════ Each accepted listing is written again byte for byte ════
 

@@ -70,8 +70,8 @@ RoomExactly =
     (text : List ℕ) (at first : ℕ) (words literals : List ℕ)
     → (readFrom text at first words literals ≡ filled Room words literals) ↔ NoRoom (drop at text) words literals
 
--- 'listing line wrong or missing: its number, from 1' (`first`, in general). Where there is no room the first three lines are right: so a wrong one
--- among these is told whatever the slices are, and any after them given room
+-- 'listing line wrong or missing: its number, from 1' (`first`, in general). Where there is no room the first three lines are right (`after-third`
+-- in proofs/Exactly.antt): so a wrong one among these is told whatever the slices are, and any after them given room
 abbrev pub LineExactly : Type 0
 LineExactly =
     (text : List ℕ) (at first n : ℕ) (words literals : List ℕ)
