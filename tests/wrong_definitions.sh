@@ -1,5 +1,5 @@
 #!/usr/bin/env bash
-# wrong_definitions.sh [CRATE..]: tries the wrong definitions of the crates that say sentences of document 01 beside grammar, crates/CRATE/must-fail/specs/*.edit. Each is
+# wrong_definitions.sh [CRATE..]: tries the wrong definitions of the crates that say sentences of document 01, crates/CRATE/must-fail/specs/*.edit. Each is
 # an edit of the crate's specs in the form of rt's must-fail edits, with a line `refused: FILE LAW`: a law of the meaning, or a case that the prover computes, in that
 # file. With the edit the prover must refuse this law, by its own words. Not enough are: that the law isn't proved because another that it names isn't; and that the wrong
 # definition is none, since the prover doesn't take it.
@@ -11,15 +11,15 @@
 #
 # Controls, without which the script fails: the bare crate as it stands is proved, before the first edit and after the last.
 #
-# And no definition is missed: each of these crates that docs/MEANING.md names for a sentence, or whose comment quotes one, is changed by an edit. Its old text stands in
+# And no definition is missed: each of these crates but grammar that docs/MEANING.md names for a sentence, or whose comment quotes one, is changed by an edit. Its old text stands in
 # the definition (its signature and clauses), or in one that the definition is made of; then a line `for: NAME..` names the definition. Needs what `rt check` leaves in
 # target/.
 set -euo pipefail
 here=$(cd "$(dirname "$0")" && pwd)
 top=$(dirname "$here")
 page=docs/MEANING.md
-# those that this script looks at, the longest first; grammar's wrong definitions are rt's own
-believed='console_text listing exports text laws values'
+# those that this script looks at, the longest first; grammar has wrong definitions of rt's own beside these
+believed='console_text listing exports grammar text laws values'
 
 # The crate without its functions, and what the prover is to read of other crates: those that it names.
 prepare() { # CRATE FOLDER
@@ -214,7 +214,7 @@ one_crate() { # CRATE
     for definition in $(named "$1"); do
         grep -qxF "$definition" "$folder/changed" || fail "$1: NO EDIT CHANGES $definition, which $page names"
     done
-    for definition in $(quoting "$1"); do
+    [ "$1" = grammar ] || for definition in $(quoting "$1"); do
         grep -qxF "$definition" "$folder/changed" || fail "$1: NO EDIT CHANGES $definition, whose comment quotes document 01"
     done
     echo "$1: $count wrong definitions, $((SECONDS - began)) s"

@@ -181,26 +181,26 @@ pub textsTable : List ℕ
 textsTable = tableOf ((3 ∷ 0 ∷ 0 ∷ 0 ∷ 0 ∷ 0 ∷ 4 ∷ 4 ∷ 5 ∷ 8 ∷ 11 ∷ 3 ∷ 3 ∷ 1 ∷ 1 ∷ []) ∷ [])
     (terminal 97 ∷ terminal 98 ∷ bind 0 1 ∷ sequence 0 2
     ∷ slot 0
-    ∷ textual 1 1
-    ∷ slot 0 ∷ textual 1 1 ∷ equal 6 7
-    ∷ slot 0 ∷ textual 0 1 ∷ equal 9 10 ∷ []) 2
+    ∷ textual 0 1
+    ∷ slot 0 ∷ textual 0 1 ∷ equal 6 7
+    ∷ slot 0 ∷ textual 1 1 ∷ equal 9 10 ∷ []) 2
 
--- the message "abc", and the literals "zb"
+-- the message "abc", and the literals "bz"
 abbrev abc : List ℕ
 abc = 97 ∷ 98 ∷ 99 ∷ []
 
-abbrev zb : List ℕ
-zb = 122 ∷ 98 ∷ []
+abbrev bz : List ℕ
+bz = 98 ∷ 122 ∷ []
 
 abbrev part : Bool → ℕ → ℕ → Value
 part literal start size = Val.Text (record { literal = literal; start = start; length = size })
 
-pub texts : answer Display textsTable zb abc 9 9760 ≡ answered DONE 0 2 4 (part false 1 1 ∷ part true 1 1 ∷ Val.Bool true ∷ Val.Bool false ∷ [])
+pub texts : answer Display textsTable bz abc 9 9760 ≡ answered DONE 0 2 4 (part false 1 1 ∷ part true 0 1 ∷ Val.Bool true ∷ Val.Bool false ∷ [])
 unfolding textsTable tabulate smallestFailing howMany signed nodes nodeFor nodeAt node exprOf parsingOf exprWith exprAt parsingWith parsingAt ruleAt grammarOf F.fieldSorts F.fieldSort F.ruleSorts F.fits F.ruleWordOk F.nodeWordOk F.wordOk F.usesNode F.wordUses F.uses F.every F.sizeOk F.tableCheck same T.operatorType T.exprType T.has T.haveAll T.assign T.assignAll T.typeOf T.typedAfter T.typedRule T.untyped L.spanBytes L.sameTexts L.equal L.lookLeft L.operate R.eval R.evalAll R.next R.withValue R.fresh R.byteStands R.due R.returning R.visit R.admit R.apply A.typeRules typeCheck check A.run A.answerOf A.conclude answer
 texts = refl
 
--- their bytes
-pub texts-bytes : map (textBytes abc zb) (part false 1 1 ∷ part true 0 2 ∷ part false 1 3 ∷ part true 2 1 ∷ part true 2 0 ∷ []) ≡ (98 ∷ []) ∷ zb ∷ [] ∷ [] ∷ [] ∷ []
+-- the bytes of two parts that fit, of two that end a byte too far, and of an empty one
+pub texts-bytes : map (textBytes abc bz) (part false 1 1 ∷ part true 0 2 ∷ part false 1 3 ∷ part true 2 1 ∷ part true 2 0 ∷ []) ≡ (98 ∷ []) ∷ bz ∷ [] ∷ [] ∷ [] ∷ []
 unfolding L.spanBytes textBytes
 texts-bytes = refl
 
@@ -268,8 +268,8 @@ operations =
     ∷ operation Equal (Val.Bool true) (Val.Bool false) (says false)
     ∷ operation Equal (Val.Bool false) (Val.Bool true) (says false)
     ∷ operation Equal (Val.Bool false) (Val.Bool false) (says true)
-    ∷ operation Equal (part false 1 1) (part true 1 1) (says true)
-    ∷ operation Equal (part false 0 1) (part true 1 1) (says false)
+    ∷ operation Equal (part false 1 1) (part true 0 1) (says true)
+    ∷ operation Equal (part false 0 1) (part true 0 1) (says false)
     ∷ operation Equal (Val.Bool true) (Val.Integer (pos 1)) isStuck
     ∷ operation Equal (Val.Integer (pos 1)) (Val.Bool true) isStuck
     ∷ operation Equal (part false 0 1) (Val.Integer (pos 1)) isStuck
@@ -284,20 +284,20 @@ operations =
     ∷ []
 
 pub operated :
-    map (λ (o : Operation). operate abc zb (o .operator) 7 (o .left) (o .right)) operations ≡ map (λ (o : Operation). o .result) operations
+    map (λ (o : Operation). operate abc bz (o .operator) 7 (o .left) (o .right)) operations ≡ map (λ (o : Operation). o .result) operations
 unfolding operations L.fitting L.quotient L.calculated same L.spanBytes L.sameTexts L.equal operate
 operated = refl
 
 -- 'And, or look at the left value first: if it isn't Bool that is STUCK at once, and if it decides the right stays unevaluated': before the right, which is STUCK
 -- at node 9
 pub looked :
-    lookLeft abc zb And 7 (Val.Bool false) (ends Stuck 9)
-    ∷ lookLeft abc zb Or 7 (Val.Bool true) (ends Stuck 9)
-    ∷ lookLeft abc zb And 7 (Val.Bool true) (ends Stuck 9)
-    ∷ lookLeft abc zb Or 7 (Val.Bool false) (ends Stuck 9)
-    ∷ lookLeft abc zb And 7 (Val.Integer (pos 1)) (ends Stuck 9)
-    ∷ lookLeft abc zb Or 7 (part true 0 1) (ends Stuck 9)
-    ∷ lookLeft abc zb Equal 7 Val.Absent (ends Stuck 9)
+    lookLeft abc bz And 7 (Val.Bool false) (ends Stuck 9)
+    ∷ lookLeft abc bz Or 7 (Val.Bool true) (ends Stuck 9)
+    ∷ lookLeft abc bz And 7 (Val.Bool true) (ends Stuck 9)
+    ∷ lookLeft abc bz Or 7 (Val.Bool false) (ends Stuck 9)
+    ∷ lookLeft abc bz And 7 (Val.Integer (pos 1)) (ends Stuck 9)
+    ∷ lookLeft abc bz Or 7 (part true 0 1) (ends Stuck 9)
+    ∷ lookLeft abc bz Equal 7 Val.Absent (ends Stuck 9)
     ∷ []
     ≡ says false ∷ says true ∷ ends Stuck 9 ∷ ends Stuck 9 ∷ isStuck ∷ isStuck ∷ ends Stuck 9 ∷ []
 unfolding lookLeft
