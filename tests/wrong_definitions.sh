@@ -50,6 +50,12 @@ unedited() { # CRATE FOLDER
     cp -R "$top/crates/$1/specs" "$2/$1"
 }
 
+# The checked modules of the bare crate as it stands: with an edit only what rests on it is checked again.
+as_checked() { # FOLDER
+    rm -rf "$1/checked"
+    cp -R "$1/unedited" "$1/checked"
+}
+
 # The laws of this file with those that they rest on; all of them where no file is named.
 with_laws() { # CRATE FOLDER [FILE]
     local module from=$top/crates/$1/proofs to=$2/$1/proofs todo
@@ -202,14 +208,17 @@ one_crate() { # CRATE
         echo "$1: without its functions and without any edit it is not proved"
         exit 1
     fi
+    mv "$folder/checked" "$folder/unedited"
     for edit in "$top/crates/$1/must-fail/specs"/*.edit; do
         [ -f "$edit" ] || { echo "$1: there is no wrong definition"; exit 1; }
         unedited "$1" "$folder"
+        as_checked "$folder"
         try "$1" "$folder" "$edit"
         count=$((count + 1))
     done
     unedited "$1" "$folder"
     with_laws "$1" "$folder"
+    as_checked "$folder"
     check "$1" "$folder" || fail "$1: after the last edit it is not proved as it stands"
     for definition in $(named "$1"); do
         grep -qxF "$definition" "$folder/changed" || fail "$1: NO EDIT CHANGES $definition, which $page names"
