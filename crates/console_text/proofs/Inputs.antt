@@ -19,13 +19,14 @@ use Rattle.text.specs.Found.{afterKey, digit, grown, numberFrom, number, hexVal
 use Rattle.text.specs.Written.{digits, decimal, signedDecimal, hexDigit, hex}
 use Rattle.listing.specs.Listing.{ending, numbers, line, recordLines, literalsLine, headLines, bodyLines, listing}
 use Rattle.listing.specs.Reading.{numbersAt, lineAt, linesAt, countAt, literalsAt, headAt, bodyAt}
+use Rattle.listing.specs.Plain.{firstLines}
 use Rattle.console_text.specs.declared.request.ModeLine.the-variants as M
 use Rattle.console_text.specs.declared.Response.the-variants.{Written, Short}
 use Rattle.console_text.specs.Asked.{says, wrongLine, Asked, modeLine, budgetAt, messageAt, tableAt, said}
 use Rattle.console_text.specs.Printed.{numberLine, textText, valueText, valueLine, numberLines, valueLines, answerLines}
 use Rattle.console_text.specs.Console.{tooLong, wrongAt, consoleAnswer, printed, consoleText}
 use Rattle.console_text.specs.Lent.{lent, enough, roomFor, afterwards, responded, respond}
-use Rattle.console_text.specs.Plain.{spelt, firstLines}
+use Rattle.console_text.specs.Plain.{spelt}
 use Rattle.console_text.proofs.Cases.{inputA, printedInput}
 
 -- ════ Case A ════
