@@ -122,7 +122,7 @@ gate() {
     echo '|---|--:|'
     echo "| crates, one after the other (the sum above) | $(nonzero "$(sed -nE 's/^rt: [a-z_0-9]+ proved \(([0-9]+) s\)$/\1/p' "$log" | awk '{ n += $1 } END { print n + 0 }')") s |"
     echo "| wrong programs, one crate after the other | $(nonzero "$wrong") s |"
-    echo "| wrong definitions of other crates than grammar, one crate after the other | $(nonzero "$definitions") s |"
+    echo "| wrong definitions that rt ci does not try itself, one crate after the other | $(nonzero "$definitions") s |"
     echo "| the whole of ./test | ${whole:-–} |"
     echo "| rt ci | ${verdict:-–} |"
 }

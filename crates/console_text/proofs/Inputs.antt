@@ -58,13 +58,6 @@ pub spelt-a : spelt askedA ≡ inputA
 unfolding inputA spelt numberLine listing headLines bodyLines literalsLine recordLines line numbers ending hex hexDigit decimal digits
 spelt-a = refl
 
--- of `a`, `b` and `c`, whose last line isn't ended: no line, one, two, three, and four, which are not there
-pub first-lines :
-    map (λ (n : ℕ). firstLines n (97 ∷ 10 ∷ 98 ∷ 10 ∷ 99 ∷ [])) (0 ∷ 1 ∷ 2 ∷ 3 ∷ 4 ∷ [])
-    ≡ [] ∷ (97 ∷ 10 ∷ []) ∷ (97 ∷ 10 ∷ 98 ∷ 10 ∷ []) ∷ (97 ∷ 10 ∷ 98 ∷ 10 ∷ 99 ∷ []) ∷ (97 ∷ 10 ∷ 98 ∷ 10 ∷ 99 ∷ []) ∷ []
-unfolding firstLines
-first-lines = refl
-
 -- ════ LINE ════
 
 -- 'LINE counts from the first line': case A without its last line, without its last two, and so on; and with a byte more, one more line

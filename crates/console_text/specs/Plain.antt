@@ -48,7 +48,7 @@ pub record FirstWrong (input : List ℕ) (n : ℕ) : Type 0 where
   pub some-right : (a : Asked) × Right a × (firstLines n (spelt a) ≡ firstLines n input)
   pub none-right : (a : Asked) → Right a → firstLines (suc n) (spelt a) ≢ firstLines (suc n) input
 
--- 'listing line wrong or missing: its number, from 1'; 'LINE counts from the first line': proofs/Line.antt proves it
+-- 'listing line wrong or missing', 'its number, from 1'; 'LINE counts from the first line': proofs/Line.antt proves it
 abbrev pub LineExactly : Type 0
 LineExactly = (input : List ℕ) (n : ℕ) → (said input ≡ wrongLine (suc n)) ↔ FirstWrong input n
 

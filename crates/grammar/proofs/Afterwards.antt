@@ -3,12 +3,15 @@ use mathlib.Core.Path.{_≡_, refl}
 use mathlib.Core.List.{List, [], _∷_, _++_}
 use Prim.Native.Nat.{ℕ, zero, suc, _<_, _≤_}
 use native.Mathlib.Omega.{arith}
+use lib.Dec.{leb}
 use lib.ListN.{getD, length, drop, replicate}
+use borrow.Author.Tests.{leb-true}
 use Rattle.grammar.specs.declared.Mode.{Mode}
 use Rattle.grammar.specs.declared.Verdict.{Verdict}
 use Rattle.grammar.specs.declared.Verdict.the-variants.{Passed, Size, Field, Use, Start, Untyped, Long, Work}
-use Rattle.grammar.specs.Answer.{workWords, check, zeroed, leftAfter, workAfter}
-use Rattle.grammar.proofs.Facts.{Refused}
+use Rattle.grammar.specs.Form.{unlessOk}
+use Rattle.grammar.specs.Answer.{workWords, checkFor, check, zeroed, leftAfter, workAfter}
+use Rattle.grammar.proofs.Facts.{Refused, followedBy-passed, unlessOk-passed}
 
 -- the first n words are zero, and the others as they were
 front-zero : (n : ℕ) (rest : List ℕ) (i other : ℕ) → i < n → getD (replicate n 0 ++ rest) i other ≡ 0
@@ -25,14 +28,21 @@ others-stay (suc n) (w ∷ work) (suc i) other h l = others-stay n work i other 
 -- 'A run (0, 8 to 12) leaves the first W words zero and the others untouched'
 pub record LeftByRun (before after : List ℕ) : Type 0 where
   pub zero-words : (i other : ℕ) → i < workWords → getD after i other ≡ 0
-  pub untouched : (i other : ℕ) → workWords ≤ i → workWords ≤ length before → getD after i other ≡ getD before i other
+  pub untouched : (i other : ℕ) → workWords ≤ i → getD after i other ≡ getD before i other
 
 module _ (mode : Mode) (words literals message work : List ℕ) where
+  -- WORK has passed
+  long-enough : check mode words literals (length message) (length work) ≡ Passed → workWords ≤ length work
+  unfolding check
+  long-enough e =
+      let limits = followedBy-passed (checkFor mode words literals) _ e .1 in
+      leb-true workWords (length work) (unlessOk-passed (leb workWords (length work)) Work tt (followedBy-passed (unlessOk (leb (length message) 65535) Long) _ limits .1))
+
   pub run-leaves : check mode words literals (length message) (length work) ≡ Passed → LeftByRun work (workAfter mode words literals message work)
   unfolding workAfter leftAfter zeroed
   run-leaves e = rw e (record {
     zero-words = λ i other h. front-zero workWords (drop workWords work) i other h;
-    untouched = λ i other h l. others-stay workWords work i other h l;
+    untouched = λ i other h. others-stay workWords work i other h (long-enough e);
   })
 
   -- 'Answers 1 to 7 change no memory'

@@ -1,5 +1,5 @@
--- Cases beside the bench cases, each computed from the written meaning: numbers and places of refusals, the edges of the checks, literals of each type, and a
--- run whose values are Texts. A slip that is made alike in meaning and code would change them. Assumes nothing.
+-- Cases beside the bench cases, each computed from the written meaning: numbers and places of refusals, the edges of the checks, runs over literals, operators,
+-- a call and Texts, what each operator gives, and constraints. A slip that is made alike in meaning and code would change them. Assumes nothing.
 use mathlib.Core.Path.{_≡_, refl}
 use mathlib.Core.List.{List, [], _∷_, _++_, map}
 use mathlib.Core.Bool.{Bool, true, false}
@@ -127,6 +127,16 @@ cases =
     ∷ table-gives (literalAt 3 1) three (Field 30)
     ∷ table-gives (literalAt 0 4) three (Field 30)
     ∷ table-gives (literalAt 0 3) [] Size  -- 'literal bytes not L'
+    ∷ table-gives (tableOf (body 0 ∷ []) ((1 ∷ 5 ∷ []) ∷ []) 0) [] (Field 19)  -- 'Fields a kind doesn't use are 0'
+    ∷ table-gives (tableOf ((0 ∷ 0 ∷ 1 ∷ []) ∷ []) (empty ∷ []) 0) [] (Field 5)  -- 'Places past n or m hold 0'
+    ∷ table-gives (tableOf ((0 ∷ 0 ∷ 0 ∷ 0 ∷ 0 ∷ 0 ∷ 0 ∷ 1 ∷ []) ∷ []) (empty ∷ []) 0) [] (Field 10)
+    ∷ table-gives (tableOf ((0 ∷ 0 ∷ 0 ∷ 0 ∷ 0 ∷ 0 ∷ 0 ∷ 0 ∷ 0 ∷ 0 ∷ 0 ∷ 1 ∷ []) ∷ []) (empty ∷ []) 0) [] (Field 14)
+    ∷ table-gives (tableOf (body 0 ∷ []) ((7 ∷ 0 ∷ 1 ∷ []) ∷ []) 0) [] (Field 20)
+    ∷ table-gives (tableOf (body 0 ∷ []) ((7 ∷ 0 ∷ 0 ∷ 0 ∷ 0 ∷ 0 ∷ 1 ∷ []) ∷ []) 0) [] (Field 24)
+    ∷ table-gives (tableOf (body 0 ∷ []) (terminal 255 ∷ []) 0) [] Passed  -- 'terminal (a byte)'
+    ∷ table-gives (tableOf (body 0 ∷ []) (terminal 256 ∷ []) 0) [] (Field 19)
+    ∷ table-gives (tableOf (body 1 ∷ []) (integer 0 1 ∷ update 15 0 ∷ []) 0) [] Passed  -- 'A rule has 16 attribute slots'
+    ∷ table-gives (tableOf (body 1 ∷ []) (integer 0 1 ∷ update 16 0 ∷ []) 0) [] (Field 29)
     ∷ table-gives (tableOf (returning 0 1 1 ∷ []) (empty ∷ bool 1 ∷ []) 0) [] Passed  -- 'Bool (0 or 1)'
     ∷ table-gives (tableOf (returning 0 1 1 ∷ []) (empty ∷ bool 2 ∷ []) 0) [] (Field 29)
     ∷ table-gives called [] Passed  -- 'Each node is used exactly once: as a part, an argument, a body or a returned node'
@@ -142,7 +152,7 @@ pub edges : map given cases ≡ map (λ (c : Case). c .expected) cases
 unfolding given cases tableA tabulate smallestFailing howMany signed nodes nodeFor nodeAt exprOf parsingOf exprWith exprAt parsingWith parsingAt ruleAt grammarOf F.fieldSorts F.fieldSort F.ruleSorts F.fits F.ruleWordOk F.nodeWordOk F.wordOk F.usesNode F.wordUses F.uses F.every F.sizeOk F.tableCheck same T.operatorType T.exprType T.has T.haveAll T.assign T.assignAll T.typeOf T.typedAfter T.typedRule T.untyped A.typeRules typeCheck check
 edges = refl
 
--- ════ Bools and Integers ════
+-- ════ Bools, Integers and operators ════
 
 -- empty, returning Bool 1, Bool 0, whether 2 equals -3, and whether -3 equals 2
 pub boolsTable : List ℕ
@@ -154,6 +164,19 @@ boolsTable = tableOf ((0 ∷ 0 ∷ 0 ∷ 0 ∷ 0 ∷ 0 ∷ 4 ∷ 1 ∷ 2 ∷ 5 �
 pub bools : answer Display boolsTable [] [] 1 9760 ≡ answered DONE 0 0 1 (Val.Bool true ∷ Val.Bool false ∷ Val.Bool false ∷ Val.Bool false ∷ [])
 unfolding boolsTable tabulate smallestFailing howMany signed nodes nodeFor nodeAt node exprOf parsingOf exprWith exprAt parsingWith parsingAt ruleAt grammarOf F.fieldSorts F.fieldSort F.ruleSorts F.fits F.ruleWordOk F.nodeWordOk F.wordOk F.usesNode F.wordUses F.uses F.every F.sizeOk F.tableCheck same T.operatorType T.exprType T.has T.haveAll T.assign T.assignAll T.typeOf T.typedAfter T.typedRule T.untyped L.spanBytes L.sameTexts L.equal L.lookLeft L.operate R.eval R.evalAll R.next R.withValue R.fresh R.byteStands R.due R.returning R.visit R.admit R.apply A.typeRules typeCheck check A.run A.answerOf A.conclude answer
 bools = refl
+
+-- empty, returning 7-3, 7×3, false or true, not true
+pub operatorsTable : List ℕ
+operatorsTable = tableOf ((0 ∷ 0 ∷ 0 ∷ 0 ∷ 0 ∷ 0 ∷ 4 ∷ 3 ∷ 6 ∷ 9 ∷ 11 ∷ 2 ∷ 2 ∷ 1 ∷ 1 ∷ []) ∷ [])
+    (empty
+    ∷ integer 0 7 ∷ integer 0 3 ∷ (21 ∷ 1 ∷ 2 ∷ [])
+    ∷ integer 0 7 ∷ integer 0 3 ∷ (22 ∷ 4 ∷ 5 ∷ [])
+    ∷ bool 0 ∷ bool 1 ∷ (27 ∷ 7 ∷ 8 ∷ [])
+    ∷ bool 1 ∷ (28 ∷ 10 ∷ []) ∷ []) 0
+
+pub operators : answer Display operatorsTable [] [] 1 9760 ≡ answered DONE 0 0 1 (Val.Integer (pos 4) ∷ Val.Integer (pos 21) ∷ Val.Bool true ∷ Val.Bool false ∷ [])
+unfolding operatorsTable tabulate smallestFailing howMany signed nodes nodeFor nodeAt node exprOf parsingOf exprWith exprAt parsingWith parsingAt ruleAt grammarOf F.fieldSorts F.fieldSort F.ruleSorts F.fits F.ruleWordOk F.nodeWordOk F.wordOk F.usesNode F.wordUses F.uses F.every F.sizeOk F.tableCheck same T.operatorType T.exprType T.has T.haveAll T.assign T.assignAll T.typeOf T.typedAfter T.typedRule T.untyped L.spanBytes L.sameTexts L.equal L.lookLeft L.operate R.eval R.evalAll R.next R.withValue R.fresh R.byteStands R.due R.returning R.visit R.admit R.apply A.typeRules typeCheck check A.run A.answerOf A.conclude answer L.fitting L.calculated L.negated
+operators = refl
 
 -- ════ A call ════
 
@@ -273,11 +296,13 @@ operations =
     ∷ operation Equal (Val.Bool true) (Val.Integer (pos 1)) isStuck
     ∷ operation Equal (Val.Integer (pos 1)) (Val.Bool true) isStuck
     ∷ operation Equal (part false 0 1) (Val.Integer (pos 1)) isStuck
+    ∷ operation Equal (part false 0 1) (Val.Bool true) isStuck
     ∷ operation Equal (part false 0 1) Val.Absent isStuck
     ∷ operation Equal Val.Absent Val.Absent isStuck
     ∷ operation And (Val.Bool true) (Val.Bool true) (says true)
     ∷ operation And (Val.Bool true) (Val.Bool false) (says false)
     ∷ operation And (Val.Bool true) (part true 0 1) isStuck
+    ∷ operation And (Val.Bool true) Val.Absent isStuck
     ∷ operation Or (Val.Bool false) (Val.Bool true) (says true)
     ∷ operation Or (Val.Bool false) (Val.Bool false) (says false)
     ∷ operation Or (Val.Bool false) (Val.Integer (pos 1)) isStuck

@@ -70,7 +70,7 @@ abbrev pub checkFor : Mode → List ℕ → List ℕ → Verdict
 checkFor Bench words literals = tableCheck words literals
 checkFor Display words literals = typeCheck words literals
 
--- 'Checks go 1, 2, 3, 4, then 5, 6, 7, then the run'
+-- 'Checks go 1, 2, 3, 4, then 5 .., 6, 7, then the run'
 unfoldable pub check : Mode → List ℕ → List ℕ → (messageLength workLength : ℕ) → Verdict
 check mode words literals messageLength workLength =
     followedBy (checkFor mode words literals)

@@ -133,7 +133,7 @@ pub data Due : Type 0 where
   noBudget : Due
   tooDeep : Due
 
--- 'the budget is looked at first, then depth'
+-- 'the budget .. is looked at first, then depth'
 unfoldable pub due : (budget deepest : ℕ) → (depth visits : ℕ) → Due
 due budget deepest depth visits = cond (ltb visits budget) (cond (leb depth deepest) fine tooDeep) noBudget
 
@@ -157,7 +157,7 @@ module _ (S : Setting) where
       cond (byteStands (S .message) at byte) (matched (at + 1) slots t) (failed slots t)
   visit apply′ rounds′ depth (sequence k p q) at slots t =
       givingBack slots (onward (apply′ (suc depth) p at slots t) (apply′ (suc depth) q))
-  -- 'Choice keeps the prefix of the part that matched; both arms start from the place and slots the choice began with'
+  -- 'Choice keeps the prefix of the part that matched .. both arms start from the place and slots the choice began with'
   visit apply′ rounds′ depth (choice k p q) at slots t =
       givingBack slots (otherwise (apply′ (suc depth) p at slots t) (apply′ (suc depth) q at slots))
   visit apply′ rounds′ depth (repeat k p) at slots t = rounds′ (suc depth) p at slots t

@@ -14,8 +14,18 @@ use Rattle.listing.specs.declared.Writing.{Writing}
 use Rattle.listing.specs.declared.Writing.the-variants as W
 use Rattle.listing.specs.Listing.{ending, numbers, line, recordLines, literalsLine, headLines, bodyLines, listing}
 use Rattle.listing.specs.Reading.{numbersAt, lineAt, linesAt, countAt, literalsAt, headAt, bodyAt, filled, readRest, readFrom, read}
+use Rattle.listing.specs.Plain.{firstLines}
 use Rattle.listing.specs.Writing.{written, write}
 use Rattle.listing.specs.Answers.{readingNumber, readingPlace, readingWords, readingLiterals, writingNumber, writingPlace, writingLength}
+
+-- ════ Lines ════
+
+-- of `a`, `b` and `c`, whose last line isn't ended: no line, one, two, three, and four, which are not there
+pub first-lines :
+    map (λ (n : ℕ). firstLines n (97 ∷ 10 ∷ 98 ∷ 10 ∷ 99 ∷ [])) (0 ∷ 1 ∷ 2 ∷ 3 ∷ 4 ∷ [])
+    ≡ [] ∷ (97 ∷ 10 ∷ []) ∷ (97 ∷ 10 ∷ 98 ∷ 10 ∷ []) ∷ (97 ∷ 10 ∷ 98 ∷ 10 ∷ 99 ∷ []) ∷ (97 ∷ 10 ∷ 98 ∷ 10 ∷ 99 ∷ []) ∷ []
+unfolding firstLines
+first-lines = refl
 
 -- ════ Case A's table ════
 
@@ -156,7 +166,7 @@ pub a-wrong-line-writes-nothing : read headA (lent 48) (lent 1) ≡ filled (R.Li
 unfolding readFrom readRest headAt bodyAt countAt literalsAt linesAt lineAt numbersAt ending over F.afterKey F.number F.numberFrom F.grown F.digit F.pairs F.pairValue F.hexValue
 a-wrong-line-writes-nothing = refl
 
--- 'listing line wrong or missing: its number, from 1': case A without its last line, without its last two, and so on
+-- 'listing line wrong or missing', 'its number, from 1': case A without its last line, without its last two, and so on
 pub missing-lines :
     map answerTo
     ((headA ++ (ruleA ++ (node0 ++ node1))) ∷ (headA ++ (ruleA ++ node0)) ∷ (headA ++ ruleA) ∷ headA ∷ (rulesA ++ nodesA) ∷ rulesA ∷ [] ∷ [])

@@ -64,13 +64,13 @@ pub record NoRoom (text words literals : List ℕ) : Type 0 where
   pub begins : firstLines 3 (listing tableWords tableLiterals) ≡ firstLines 3 text
   pub longer : (length words < length tableWords) ⊎ (length literals < length tableLiterals)
 
--- ROOM comes exactly there. 'A refusal writes nothing', nor does LINE
+-- ROOM comes exactly there, and 'A refusal writes nothing'
 abbrev pub RoomExactly : Type 0
 RoomExactly =
     (text : List ℕ) (at first : ℕ) (words literals : List ℕ)
     → (readFrom text at first words literals ≡ filled Room words literals) ↔ NoRoom (drop at text) words literals
 
--- 'listing line wrong or missing: its number, from 1' (`first`, in general). Where there is no room the first three lines are right (`after-third`
+-- 'listing line wrong or missing', 'its number, from 1' (`first`, in general). Where there is no room the first three lines are right (`after-third`
 -- in proofs/Exactly.antt): so a wrong one among these is told whatever the slices are, and any after them given room
 abbrev pub LineExactly : Type 0
 LineExactly =

@@ -6,7 +6,7 @@ use Rattle.grammar.specs.declared.Verdict.the-variants.{Passed, Size, Field, Us
 use Rattle.grammar.specs.Answer.{refusal}
 use Rattle.machine.specs.Drive.{Ran, recorded}
 
--- 'Checks go 1, 2, 3, 4, then 5, 6, 7, then the run'; 'Answers 1 to 7 change no memory'
+-- 'Checks go 1, 2, 3, 4, then 5 .., 6, 7, then the run'; 'Answers 1 to 7 change no memory'
 unfoldable pub afterChecks : Verdict → Ran → List ℕ → Ran
 afterChecks Passed ran work = ran
 afterChecks Size ran work = recorded (refusal Size) work
