@@ -21,15 +21,21 @@ page=docs/MEANING.md
 # those that this script looks at, the longest first; grammar has wrong definitions of rt's own beside these
 believed='console_text listing exports grammar text laws values'
 
-# The crate without its functions, and what the prover is to read of other crates: those that it names.
+# The crate without its functions.
 prepare() { # CRATE FOLDER
-    local file other
+    local file
     (cd "$top/crates/$1" && find src -name '*.rt') | while read -r file; do
         mkdir -p "$(dirname "$2/$1/$file")"
         declared <"$top/crates/$1/$file" >"$2/$1/$file"
     done
     unedited "$1" "$2"
     with_laws "$1" "$2"
+}
+
+# What the prover is to read of other crates: those that the files in the folder name.
+with_crates() { # CRATE FOLDER
+    local other
+    externs=()
     for other in $(grep -rhoE 'Rattle·[a-z_]+\.|^use [a-z_]+::' "$2/$1" | sed -E 's/Rattle·|use |\.|://g' | sort -u); do
         case $other in "$1" | crate) ;; *) externs+=(--extern "$other=$top/target/rlib/$other.rlib") ;; esac
     done
@@ -127,6 +133,7 @@ fail() { # MESSAGE
 
 # Whether the crate is proved as it stands in the folder; the log is left there.
 check() { # CRATE FOLDER
+    with_crates "$1" "$2"
     (cd "$2" && rt check "./$1" ${externs[@]+"${externs[@]}"} -L "dependency=$top/target/rlib" --incremental "$2/checked" >log 2>&1) || true
     grep -q '^logic=proved ' "$2/log"
 }
