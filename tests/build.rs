@@ -13,5 +13,5 @@ fn main() {
         "cargo:rustc-link-search=native={}",
         path.parent().expect("a folder").display()
     );
-    println!("cargo:rustc-link-lib=static=exports");
+    println!("cargo:rustc-link-lib=static=styrmflo");
 }

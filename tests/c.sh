@@ -1,6 +1,6 @@
 #!/usr/bin/env bash
-# c.sh HEADER WORDS..: compiles C that includes styrmflo.h, the file HEADER, for x86-64, with the kit's compiler and every warning an error. The header needs stddef.h and
-# stdint.h alone, which the machine's own compiler has.
+# c.sh HEADER WORDS..: compiles C that includes styrmflo.h, the file HEADER, for x86-64, or for the last --target= of WORDS, with the kit's compiler and every warning an
+# error. The header needs stdint.h alone, which the machine's own compiler has.
 set -eu
 header=$1
 shift

@@ -1,7 +1,8 @@
 #!/usr/bin/env bash
 # header.sh: holds docs/styrmflo.h to the exports. Of each function of crates/exports/src/lib.rt a pointer is made whose type is worked out from the
-# function's own signature, and the header's declaration is stored in it: another type, or no declaration, is an error of the C compiler. And the header declares no
-# function that isn't exported. (That the archive has these functions, and that W is what the header says, shows where it is called: tests/shipped.sh.)
+# function's own signature, and the header's declaration is stored in it: another type, or no declaration, is an error of the compiler: of C for processors of 64 and of
+# 32 bits (a count has 64 on both), and of C++. And the header declares no function that isn't exported. (That the archive has these functions, and that sizes and
+# numbers are what the header says, shows where it is called: tests/shipped.sh.)
 set -euo pipefail
 cd "$(dirname "$0")/.."
 header=docs/styrmflo.h
@@ -14,10 +15,10 @@ signatures() {
     awk '
         function c_type(t) {
             gsub(/\047[a-z]+ /, "", t)
-            if (t ~ /^&mut \[u[0-9]+\]$/) return "uint" substr(t, 8, length(t) - 8) "_t *, size_t"
-            if (t ~ /^&\[u[0-9]+\]$/) return "const uint" substr(t, 4, length(t) - 4) "_t *, size_t"
+            if (t ~ /^&mut \[u[0-9]+\]$/) return "uint" substr(t, 8, length(t) - 8) "_t *, uint64_t"
+            if (t ~ /^&\[u[0-9]+\]$/) return "const uint" substr(t, 4, length(t) - 4) "_t *, uint64_t"
             if (t ~ /^u[0-9]+$/) return "uint" substr(t, 2) "_t"
-            if (t == "usize") return "size_t"
+            if (t == "usize") return "uint64_t"
             if (t == "") return "void"
             return "unknown_type_" t
         }
@@ -35,7 +36,7 @@ signatures() {
                 type = each[i]; sub(/^[^:]*: /, "", type); sub(/ +$/, "", type)
                 if (type != "") types = types (types ? ", " : "") c_type(type)
             }
-            print name " | " c_type(result) " | " types
+            print name " | " c_type(result) " | " (types ? types : "void")
         }' "$source"
 }
 
@@ -51,5 +52,14 @@ fi
     printf '#include "styrmflo.h"\n'
     sed -E 's/^([^ ]+) \| (.*) \| (.*)$/\2 (*const held_\1)(\3) = \1;/' "$room/signatures"
 } >"$room/held.c"
-tests/c.sh "$header" -fsyntax-only "$room/held.c" || { echo "$header: not what is exported"; exit 1; }
+for target in x86_64-unknown-linux-gnu armv7-unknown-linux-gnueabihf thumbv7em-none-eabi; do
+    tests/c.sh "$header" --target="$target" -fsyntax-only "$room/held.c" || { echo "$header: not what is exported, $target"; exit 1; }
+done
+# a name of C is not mangled: a function that is declared again, for C, is the same one
+{
+    printf '#include "styrmflo.h"\nextern "C" {\n'
+    sed -E 's/^([^ ]+) \| (.*) \| (.*)$/\2 \1(\3);/' "$room/signatures"
+    printf '}\n'
+} >"$room/held.cc"
+tests/c.sh "$header" -std=c++11 -x c++ -fsyntax-only "$room/held.cc" || { echo "$header: not what is exported, C++"; exit 1; }
 echo "$header: $(wc -l <"$room/exported") functions, as they are exported"

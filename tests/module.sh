@@ -1,7 +1,7 @@
 #!/usr/bin/env bash
 # module.sh: prints the path of the proved module of exports, as the kit's compiler hands it to clang (target/module/module.bc). Makes it if it has to, proved first.
-# module.sh PROCESSOR MODULE WORDS..: compiles MODULE (that one, or one as text) for PROCESSOR, with WORDS (-c or -S, -o FILE, ..) beside what the compiler is told for
-# the library that is called there: on x86-64 the kit's own words, by which the shipped archive is made; elsewhere those of the library that the tests link.
+# module.sh TARGET MODULE WORDS..: compiles MODULE (that one, or one as text) for TARGET, a processor with Linux (x86_64, aarch64) or as clang names it, with WORDS (-c or -S,
+# -o FILE, ..) beside what the compiler is told for the library there: on x86-64 the kit's own words, by which the shipped archive is made; elsewhere -O3, a section a function, and for Linux -fPIC.
 set -euo pipefail
 cd "$(dirname "$0")/.."
 # shellcheck source=tests/kit.sh
@@ -43,16 +43,17 @@ if [ $# = 0 ]; then
     exit
 fi
 
-processor=$1
+target=$1
 module=$2
 shift 2
+case $target in *-*) ;; *) target=$target-unknown-linux-gnu ;; esac
 mapfile -t words <"$folder/words"
-if [ "$processor" = x86_64 ]; then
+if [ "$target" = x86_64-unknown-linux-gnu ]; then
     "$clang" "${words[@]}" "$@" -x ir "$module"
     exit
 fi
-triple=$processor-unknown-linux-gnu
 "$clang" -w --target=x86_64-unknown-linux-gnu -x ir "$module" -S -emit-llvm -o "$room/module.ll"
-sed -e '/^target datalayout/d' -e "s/^target triple.*/target triple = \"$triple\"/" \
+sed -e '/^target datalayout/d' -e "s/^target triple.*/target triple = \"$target\"/" \
     -e 's/"target-cpu"="[^"]*"//g' -e 's/"target-features"="[^"]*"//g' -e 's/"tune-cpu"="[^"]*"//g' "$room/module.ll" >"$room/native.ll"
-"$clang" -w --target="$triple" -O3 -fPIC "$@" -x ir "$room/native.ll"
+case $target in *linux*) place=-fPIC ;; *) place=-fno-pic ;; esac
+"$clang" -w --target="$target" -O3 "$place" -ffunction-sections -fdata-sections "$@" -x ir "$room/native.ll"

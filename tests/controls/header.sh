@@ -15,6 +15,8 @@ changed 'a result of another type' 'not what is exported' 's/^uint64_t styrmflo_
 changed 'a parameter less' 'not what is exported' 's/, uint32_t payload\)/)/'
 changed 'no declaration' 'styrmflo_text is exported and not declared' '/^uint64_t styrmflo_text/d'
 changed 'a declaration too many' 'styrmflo_more is declared and not exported' 's/^uint64_t styrmflo_text/uint64_t styrmflo_more(void);\n&/'
+changed 'a count of 32 bits where a pointer has 32' 'not what is exported, armv7' 's/uint64_t work_count/__SIZE_TYPE__ work_count/'
+changed 'no C++' 'not what is exported, C++' 's/^extern "C" \{|^\}$//'
 changed 'no C' 'not what is exported' 's/#include <stdint.h>//'
 changed 'empty' 'is exported and not declared' d
 copy crates/exports docs

@@ -2,7 +2,7 @@
 //! for the answer that is too short (docs/DECISIONS.md, "Slices that a caller
 //! lends too short"): document 01 has no row for either.
 
-use crate::exported::{Exports, WORK_WORDS};
+use crate::exported::{Exports, VERSION, WORK_WORDS};
 use crate::reference::run::Lent;
 use std::fmt::Debug;
 
@@ -15,6 +15,7 @@ const DIRT: u8 = 0xa5;
 
 pub fn try_boundary(exports: &dyn Exports) -> Result<(), String> {
     expect("W", &exports.work_words(), &WORK_WORDS)?;
+    expect("the version", &exports.version(), &VERSION)?;
     let mut words = [0u16; 48];
     let mut read = [u64::from(DIRT); 4];
     exports.read_into(CASE_A.as_bytes(), &mut words, &mut [], &mut read);

@@ -7,11 +7,16 @@ use crate::subject::{Home, ReadAnswer, Record, Span, Subject, Value, WriteAnswer
 /// W, as docs/WORK.md states it.
 pub const WORK_WORDS: usize = 9_760;
 
+/// The version of the exported functions, as docs/FIRMWARE.md states it.
+pub const VERSION: u32 = 1;
+
 /// As they are called: the words of an answer go into a slice that the caller
 /// lends, whatever its length.
 pub trait Exports {
     /// W, as the caller knows it.
     fn work_words(&self) -> usize;
+
+    fn version(&self) -> u32;
 
     fn check(&self, words: &[u16], literals: &[u8]) -> u32;
 

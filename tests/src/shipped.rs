@@ -1,15 +1,19 @@
 //! The shipped archive, called from C with docs/styrmflo.h: the program
 //! tests/shipped/caller.c, which answers requests one after the other. On a
-//! processor for which the archive isn't made it runs under an emulator.
+//! processor for which the archive isn't made it runs under an emulator. The
+//! libraries for other targets are called in the same way (tests/targets.sh).
 
-use crate::exported::Exports;
-use crate::reference::run::Lent;
+use crate::exported::{Exports, VERSION, WORK_WORDS};
+use crate::numbers;
+use crate::reference::console::MOST_WORDS;
+use crate::reference::run::{Lent, MOST_MESSAGE};
+use crate::reference::table::{FOUR, MOST_LITERALS, MOST_NODES, MOST_RULES};
 use std::cell::RefCell;
 use std::io::{Read, Write};
 use std::process::{Child, ChildStdin, ChildStdout, Command, Stdio};
 
 /// The numbers of caller.c's `enum`.
-const WORK_WORDS: u32 = 0;
+const HEADER: u32 = 0;
 const CHECK: u32 = 1;
 const TYPE_CHECK: u32 = 2;
 const BENCH: u32 = 3;
@@ -17,6 +21,40 @@ const DISPLAY: u32 = 4;
 const READ: u32 = 5;
 const WRITE: u32 = 6;
 const TEXT: u32 = 7;
+const ASKED_VERSION: u32 = 8;
+
+/// The longest listing: as many lines as there can be, each as long as it can
+/// be, with 65535 for every number past the head.
+const MOST_LISTING: usize = "rules=64\nnodes=1024\nliterals=\n".len()
+    + 2 * MOST_LITERALS
+    + MOST_RULES * ("rule=".len() + 15 * "65535 ".len())
+    + MOST_NODES * ("node=".len() + 10 * "65535 ".len());
+
+/// What the header states: caller.c's `stated`, in its order.
+fn stated() -> Vec<(&'static str, u64)> {
+    let sizes = [
+        ("W", WORK_WORDS),
+        ("the version", VERSION as usize),
+        ("the most rules", MOST_RULES),
+        ("the most nodes", MOST_NODES),
+        ("the most words", MOST_WORDS),
+        ("the most literals", MOST_LITERALS),
+        ("the longest message", MOST_MESSAGE),
+        ("the longest listing", MOST_LISTING),
+        ("the record's words", 12),
+        ("the answer's words", 4),
+        ("how many values", FOUR),
+    ];
+    let sizes = sizes.map(|(name, size)| (name, size as u64));
+    let numbers = numbers::ALL.iter();
+    let numbers = numbers.filter(|(number, _)| *number != numbers::INPUT);
+    let numbers = numbers.map(|&(number, name)| (name, u64::from(number)));
+    let places = [0, 1, 2, 3, 4, 5, 10, 11].map(|place| ("a place in the record", place));
+    let tags = [0, 1, 2, 3, 4].map(|tag| ("a tag", tag));
+    let answers = [0, 1, 2, 3, 0, 1, 2, 3].map(|place| ("a place in an answer", place));
+    let all = sizes.into_iter().chain(numbers).chain(places);
+    all.chain(tags).chain(answers).collect()
+}
 
 /// As caller.c's `struct request`, in its order.
 #[derive(Default)]
@@ -53,7 +91,8 @@ impl Request {
 
 pub struct Shipped {
     pipes: RefCell<Pipes>,
-    work_words: usize,
+    /// What the header states, W first.
+    header: Vec<u64>,
 }
 
 struct Pipes {
@@ -136,14 +175,31 @@ impl Shipped {
             child,
         };
         let request = Request {
-            asked: WORK_WORDS,
+            asked: HEADER,
             ..Request::default()
         };
         pipes.ask(&request, &[]);
-        let work_words = pipes.word() as usize;
+        let mut header = vec![0; pipes.word() as usize];
+        pipes.fill(&mut header);
         Shipped {
             pipes: RefCell::new(pipes),
-            work_words,
+            header,
+        }
+    }
+
+    /// Whether the header that the caller was compiled with states what it must.
+    pub fn header_is_right(&self) -> Result<(), String> {
+        let wanted = stated();
+        if self.header.len() != wanted.len() {
+            return Err("the header: other numbers than are asked".to_string());
+        }
+        let both = self.header.iter().zip(wanted);
+        let wrong = both
+            .into_iter()
+            .find(|(given, (_, wanted))| *given != wanted);
+        match wrong {
+            Some((given, (name, wanted))) => Err(format!("{name}: {given}, not {wanted}")),
+            None => Ok(()),
         }
     }
 
@@ -162,7 +218,17 @@ impl Shipped {
 
 impl Exports for Shipped {
     fn work_words(&self) -> usize {
-        self.work_words
+        self.header[0] as usize
+    }
+
+    fn version(&self) -> u32 {
+        let request = Request {
+            asked: ASKED_VERSION,
+            ..Request::default()
+        };
+        let mut pipes = self.pipes.borrow_mut();
+        pipes.ask(&request, &[]);
+        u32::try_from(pipes.word()).expect("a version")
     }
 
     fn check(&self, words: &[u16], literals: &[u8]) -> u32 {

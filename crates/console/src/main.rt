@@ -1,14 +1,21 @@
 // The console (document 01, "Listing and console"): standard input in, its lines out. What it prints for what it reads is `consoleText` of
 // console_text/specs, by the promise of `console_text::respond`; that these bytes are what is read and written, no promise can say.
 use console_text::Response;
+use libc::STDERR_FILENO;
 use libc::STDIN_FILENO;
 use libc::STDOUT_FILENO;
 
+// Failing to write is no success. A program of this language has no exit status, so it is said on standard error; `./run` ends with 2 where something stands there.
+fn complain() {
+    io::write_all(STDERR_FILENO, b"console: the answer could not be written\n");
+}
+
 // Writes the first bytes of the output; their count is never more than there are.
 fn send(output: &[u8], count: usize) {
-    if count <= output.len() {
-        io::write_all(STDOUT_FILENO, &output[..count]);
+    if count <= output.len() && io::write_all(STDOUT_FILENO, &output[..count]) {
+        return;
     }
+    complain();
 }
 
 fn main() {
@@ -30,6 +37,6 @@ fn main() {
     ) {
         Response::Written(count) => send(&output, count),
         // never, since the slices are as long as they have to be
-        Response::Short => {}
+        Response::Short => complain(),
     }
 }

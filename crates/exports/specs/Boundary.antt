@@ -14,6 +14,10 @@ use Rattle.listing.specs.declared.Reading.{Reading}
 use Rattle.listing.specs.declared.Writing.{Writing}
 use Rattle.listing.specs.Answers.{readingNumber, readingPlace, readingWords, readingLiterals, writingNumber, writingPlace, writingLength}
 
+-- the version of all this: one more wherever a function's parameters, an answer's words or the meaning of a number change
+abbrev pub version : ℕ
+version = 1
+
 -- a check's answer: 65536 times its number, and its place
 unfoldable pub verdictWord : Verdict → ℕ
 verdictWord v = number v * 65536 + place v

@@ -9,12 +9,20 @@ ghost use Rattle.grammar.specs.Answer.{answer, typeCheck, workAfter};
 ghost use Rattle.values.specs.Slots.{valueOf};
 ghost use Rattle.listing.specs.Reading.{read};
 ghost use Rattle.listing.specs.Writing.{write};
-ghost use Rattle.exports.specs.Boundary.{partWord, verdictWord, withReading, withRecord, withWriting};
+ghost use Rattle.exports.specs.Boundary.{partWord, verdictWord, version, withReading, withRecord, withWriting};
 use crate::boundary::part_word;
 use crate::boundary::put_reading;
 use crate::boundary::put_record;
 use crate::boundary::put_writing;
 use crate::boundary::verdict_word;
+
+// The version of what is exported here, for whoever links the library to compare with the version of the header that he was compiled with.
+#[no_mangle]
+pub extern "C" fn styrmflo_version() -> u32
+    ensures { λ r. ⌜ r ≡ version ⌝ }
+{
+    1
+}
 
 // The checks 1 to 4: 65536 times the answer's number, and its place.
 #[no_mangle]

@@ -15,7 +15,11 @@ fn main() {
         first_seed: asked(1, 200_001),
         kinds: |kind| *kind < 256 || kind % 257 == 0,
     };
-    if let Err(difference) = compare_exports(&Shipped::new(&command), &extent) {
+    let shipped = Shipped::new(&command);
+    let compared = shipped
+        .header_is_right()
+        .and_then(|()| compare_exports(&shipped, &extent));
+    if let Err(difference) = compared {
         println!("{difference}");
         std::process::exit(1);
     }

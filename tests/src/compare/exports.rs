@@ -17,7 +17,7 @@ pub struct Extent {
 /// Prints what was reached, or tells the first difference.
 pub fn compare_exports<E: Exports>(exports: &E, extent: &Extent) -> Result<(), String> {
     try_boundary(exports)?;
-    println!("W, tags without a row, answers in slices of every length: as stated");
+    println!("W, the version, tags without a row, answers in slices of every length: as stated");
     let reference = Reference {
         work_words: WORK_WORDS,
     };

@@ -7,8 +7,8 @@ use crate::reference::run::Lent;
 use std::cell::RefCell;
 use std::ffi::c_void;
 
-/// The exported functions, by name: document order of docs/styrmflo.h.
-pub const NAMES: [&str; 7] = [
+/// The exported functions, by name.
+pub const NAMES: [&str; 8] = [
     "styrmflo_check",
     "styrmflo_type_check",
     "styrmflo_bench",
@@ -16,6 +16,7 @@ pub const NAMES: [&str; 7] = [
     "styrmflo_read",
     "styrmflo_write",
     "styrmflo_text",
+    "styrmflo_version",
 ];
 const CHECK: usize = 0;
 const TYPE_CHECK: usize = 1;
@@ -24,6 +25,7 @@ const DISPLAY: usize = 3;
 const READ: usize = 4;
 const WRITE: usize = 5;
 const TEXT: usize = 6;
+const VERSION: usize = 7;
 
 fn address(function: usize) -> *const c_void {
     match function {
@@ -33,7 +35,8 @@ fn address(function: usize) -> *const c_void {
         DISPLAY => library::styrmflo_display as *const c_void,
         READ => library::styrmflo_read as *const c_void,
         WRITE => library::styrmflo_write as *const c_void,
-        _ => library::styrmflo_text as *const c_void,
+        TEXT => library::styrmflo_text as *const c_void,
+        _ => library::styrmflo_version as *const c_void,
     }
 }
 
@@ -78,6 +81,10 @@ fn lent_to_write<T>(slice: &mut [T]) -> [u64; 2] {
 impl Exports for OnStack {
     fn work_words(&self) -> usize {
         WORK_WORDS
+    }
+
+    fn version(&self) -> u32 {
+        unsafe { self.call(VERSION, &[]) as u32 }
     }
 
     fn check(&self, words: &[u16], literals: &[u8]) -> u32 {

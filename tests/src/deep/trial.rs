@@ -4,7 +4,7 @@
 use super::on_stack::{OnStack, NAMES};
 use super::tables::{message, Deep};
 use crate::compare::one::same;
-use crate::exported::{Exports, WORK_WORDS};
+use crate::exported::{Exports, VERSION, WORK_WORDS};
 use crate::numbers::{DONE, FIELD};
 use crate::reference::listing::listing_of;
 use crate::reference::table::Table;
@@ -32,7 +32,8 @@ pub fn try_one(on: &OnStack, deep: &Deep, function: usize) -> Same {
         "styrmflo_display" => runs(on, deep, true),
         "styrmflo_read" => reading(on, deep),
         "styrmflo_write" => writing(on, deep),
-        _ => texts(on, deep),
+        "styrmflo_text" => texts(on, deep),
+        _ => same("version", &on.version(), &VERSION),
     }
 }
 

@@ -1,0 +1,116 @@
+/* What caller.c needs where there is no C library: Linux's system calls, and the functions that the reader's library calls outside (./library says which). For i686, aarch64
+   and 32-bit ARM; a Linux for ARM runs the code of a Cortex-M as well. Written to be plain, not fast. */
+typedef __SIZE_TYPE__ count;
+
+#if defined(__i386__)
+enum { EXIT = 1, READ = 3, WRITE = 4 };
+static long call(long number, long a, long b, long c)
+{
+    __asm__ volatile("int $0x80" : "+a"(number) : "b"(a), "c"(b), "d"(c) : "memory");
+    return number;
+}
+#elif defined(__arm__)
+enum { EXIT = 1, READ = 3, WRITE = 4 };
+/* r7 has the number; the compiler may need it itself, so it is kept. */
+__attribute__((naked)) static long call(long number, long a, long b, long c)
+{
+    __asm__ volatile("push {r7, lr}\n mov r7, r0\n mov r0, r1\n mov r1, r2\n mov r2, r3\n svc #0\n pop {r7, pc}");
+}
+#elif defined(__aarch64__)
+enum { EXIT = 93, READ = 63, WRITE = 64 };
+static long call(long number, long a, long b, long c)
+{
+    register long x8 __asm__("x8") = number;
+    register long x0 __asm__("x0") = a;
+    register long x1 __asm__("x1") = b;
+    register long x2 __asm__("x2") = c;
+    __asm__ volatile("svc #0" : "+r"(x0) : "r"(x8), "r"(x1), "r"(x2) : "memory");
+    return x0;
+}
+#endif
+
+long read(int file, void *to, unsigned long size);
+long write(int file, const void *from, unsigned long size);
+int main(void);
+void _start(void);
+
+long read(int file, void *to, unsigned long size)
+{
+    return call(READ, file, (long)to, (long)size);
+}
+
+long write(int file, const void *from, unsigned long size)
+{
+    return call(WRITE, file, (long)from, (long)size);
+}
+
+/* Called by started, on a stack as main may expect it. */
+__attribute__((used)) static void begin(void)
+{
+    call(EXIT, main(), 0, 0);
+}
+
+__attribute__((naked, used)) void _start(void)
+{
+#if defined(__i386__)
+    __asm__ volatile("and $-16, %esp\n call begin\n hlt");
+#elif defined(__arm__)
+    __asm__ volatile("mov r0, sp\n bic r0, r0, #7\n mov sp, r0\n bl begin\n udf #0");
+#else
+    __asm__ volatile("bl begin\n brk #0");
+#endif
+}
+
+void *memset(void *to, int byte, count size);
+void *memmove(void *to, const void *from, count size);
+void *memcpy(void *to, const void *from, count size);
+
+void *memset(void *to, int byte, count size)
+{
+    volatile unsigned char *next = to;
+    for (count i = 0; i < size; i++)
+        next[i] = (unsigned char)byte;
+    return to;
+}
+
+void *memmove(void *to, const void *from, count size)
+{
+    volatile unsigned char *next = to;
+    const volatile unsigned char *old = from;
+    if ((count)to < (count)from)
+        for (count i = 0; i < size; i++)
+            next[i] = old[i];
+    else
+        for (count i = size; i > 0; i--)
+            next[i - 1] = old[i - 1];
+    return to;
+}
+
+void *memcpy(void *to, const void *from, count size)
+{
+    return memmove(to, from, size);
+}
+
+#if defined(__arm__)
+/* ARM's run-time ABI: the same under other names, and division. */
+#define ALIAS(name, number) void name##number(void *to, const void *from, count size) { memmove(to, from, size); }
+#define CLEAR(name, number) void name##number(void *to, count size) { memset(to, 0, size); }
+#define EACH(macro, name) macro(name, ) macro(name, 4) macro(name, 8)
+#pragma clang diagnostic ignored "-Wmissing-prototypes"
+EACH(ALIAS, __aeabi_memcpy)
+EACH(ALIAS, __aeabi_memmove)
+EACH(CLEAR, __aeabi_memclr)
+
+int __aeabi_idiv(int a, int b)
+{
+    unsigned n = a < 0 ? 0u - (unsigned)a : (unsigned)a, d = b < 0 ? 0u - (unsigned)b : (unsigned)b, q = 0, r = 0;
+    for (int i = 31; i >= 0; i--) {
+        r = r << 1 | (n >> i & 1u);
+        if (r >= d) {
+            r -= d;
+            q |= 1u << i;
+        }
+    }
+    return (int)((a < 0) == (b < 0) ? q : 0u - q);
+}
+#endif
