@@ -2,7 +2,7 @@
 # targets.sh [TARGET..]: ./library for each target that docs/FIRMWARE.md names, and for the 32-bit x86, whose programs most x86-64 machines run as they are. Each library is
 # linked with tests/shipped/caller.c, compiled for the same target with docs/styrmflo.h, and without any C library (tests/shipped/bare.c). Where this machine can run
 # that, by itself or by an emulator on the path (qemu-arm, qemu-aarch64: none is needed), it is compared with the independent implementation as the shipped archive is.
-# One line a target: run and the same, or only compiled. TARGETS_CASES is how many random cases (2,000).
+# One line a target: run and the same, or only compiled. TARGETS_CASES is how many random cases (2,000), TARGETS_HEADER another header (tests/controls/targets.sh).
 set -euo pipefail
 cd "$(dirname "$0")/.."
 # shellcheck source=tests/kit.sh
@@ -23,8 +23,9 @@ emulator() { # TARGET
 
 # The caller for the target, as a program that needs nothing but Linux.
 caller() { # TARGET FOLDER
-    tests/c.sh "$2/styrmflo.h" --target="$1" -fno-pic -O2 -c tests/shipped/caller.c -o "$room/caller.o"
-    tests/c.sh "$2/styrmflo.h" --target="$1" -fno-pic -fno-builtin -O2 -c tests/shipped/bare.c -o "$room/bare.o"
+    local header=${TARGETS_HEADER:-$2/styrmflo.h}
+    tests/c.sh "$header" --target="$1" -fno-pic -O2 -c tests/shipped/caller.c -o "$room/caller.o"
+    tests/c.sh "$header" --target="$1" -fno-pic -fno-builtin -O2 -c tests/shipped/bare.c -o "$room/bare.o"
     "$own/toolchain/bin/ld.lld" --gc-sections "$room/caller.o" "$room/bare.o" "$2/libstyrmflo.a" -o "$room/caller"
 }
 

@@ -1,6 +1,6 @@
 # shellcheck shell=bash
 # What is handed over to be run was proved as it stands: where a proof is broken there is nothing, though something stands there from before.
-copy crates crates.txt
+copy crates crates.txt library docs/styrmflo.h
 mkdir -p target/bin target/staticlib target/module
 touch -d 2000-01-01 target/bin/console target/staticlib/libexports.a target/module/module.bc
 echo broken >>crates/laws/specs/Range.antt
