@@ -8,7 +8,7 @@ if grep -q ': run, and the same' "$room/said"; then
     mkdir "$room/header"
     cp docs/styrmflo.h "$room/header"
     change "$room/header/styrmflo.h" 's/uint64_t ([a-z]+_count)/__SIZE_TYPE__ \1/g'
-    fails 'targets, counts as wide as a pointer' 'case A is read' env TARGETS_HEADER="$room/header/styrmflo.h" tests/targets.sh i686
+    fails 'targets, counts as wide as a pointer' 'the caller of the shipped archive' env TARGETS_HEADER="$room/header/styrmflo.h" tests/targets.sh i686
     cp docs/styrmflo.h "$room/header"
     change "$room/header/styrmflo.h" 's/(STYRMFLO_VERSION) 1/\1 2/'
     fails 'targets, a header of another version' 'the version: 2, not 1' env TARGETS_HEADER="$room/header/styrmflo.h" tests/targets.sh i686

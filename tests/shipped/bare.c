@@ -1,7 +1,60 @@
-/* What caller.c needs where there is no C library: Linux's system calls, and the functions that the reader's library calls outside (./library says which). For i686, aarch64
-   and 32-bit ARM; a Linux for ARM runs the code of a Cortex-M as well. Written to be plain, not fast. */
+/* What caller.c needs where there is no C library: its input and output, a start, and the functions that the reader's library calls outside (./library says which). By
+   Linux's system calls for i686, aarch64 and 32-bit ARM; on a Cortex-M by the debugger's, which an emulator answers (cortex_m.ld lays it out for one). Plain, not fast. */
 typedef __SIZE_TYPE__ count;
 
+long read(int file, void *to, unsigned long size);
+long write(int file, const void *from, unsigned long size);
+int main(void);
+
+#if defined(__ARM_ARCH_PROFILE) && __ARM_ARCH_PROFILE == 'M'
+enum { OPEN = 1, WRITE = 5, READ = 6, EXIT = 0x18, ENDED = 0x20026, FAILED = 0x20023 };
+
+static long ask(long what, const void *with)
+{
+    register long r0 __asm__("r0") = what;
+    register const void *r1 __asm__("r1") = with;
+    __asm__ volatile("bkpt #0xab" : "+r"(r0) : "r"(r1) : "memory");
+    return r0;
+}
+
+/* Standard input is the console ":tt" opened to read (mode 0), standard output to write (mode 4). */
+static long console[2];
+
+static long opened(long mode)
+{
+    const void *block[] = {":tt", (void *)mode, (void *)3};
+    return ask(OPEN, block);
+}
+
+/* Answers how many bytes were not moved. */
+static long moved(long what, int file, const void *bytes, unsigned long size)
+{
+    const void *block[] = {(void *)console[file], bytes, (void *)size};
+    return (long)size - ask(what, block);
+}
+
+long read(int file, void *to, unsigned long size)
+{
+    return moved(READ, file, to, size);
+}
+
+long write(int file, const void *from, unsigned long size)
+{
+    return moved(WRITE, file, from, size);
+}
+
+static void begin(void)
+{
+    console[0] = opened(0);
+    console[1] = opened(4);
+    ask(EXIT, (void *)(main() == 0 ? ENDED : FAILED));
+    for (;;) {
+    }
+}
+
+extern char stack_top[];
+__attribute__((used, section(".vectors"))) static void *const vectors[] = {stack_top, (void *)begin};
+#else
 #if defined(__i386__)
 enum { EXIT = 1, READ = 3, WRITE = 4 };
 static long call(long number, long a, long b, long c)
@@ -29,9 +82,6 @@ static long call(long number, long a, long b, long c)
 }
 #endif
 
-long read(int file, void *to, unsigned long size);
-long write(int file, const void *from, unsigned long size);
-int main(void);
 void _start(void);
 
 long read(int file, void *to, unsigned long size)
@@ -44,7 +94,7 @@ long write(int file, const void *from, unsigned long size)
     return call(WRITE, file, (long)from, (long)size);
 }
 
-/* Called by started, on a stack as main may expect it. */
+/* Called by _start, on a stack as main may expect it. */
 __attribute__((used)) static void begin(void)
 {
     call(EXIT, main(), 0, 0);
@@ -60,6 +110,7 @@ __attribute__((naked, used)) void _start(void)
     __asm__ volatile("bl begin\n brk #0");
 #endif
 }
+#endif
 
 void *memset(void *to, int byte, count size);
 void *memmove(void *to, const void *from, count size);

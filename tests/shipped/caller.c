@@ -14,7 +14,7 @@ struct request {
     uint32_t asked, words, literals, bytes, work, answer, budget, tag, payload;
 };
 
-enum { MOST = 1 << 20 };
+enum { MOST = 1 << 18 };
 static uint16_t words[MOST];
 static uint8_t literals[MOST], bytes[MOST];
 static uint32_t work[MOST], twelve[MOST];
