@@ -6,8 +6,8 @@
 #   tried [NAME]    what is tried with the listing NAME, or with the last one; a line is one of:
 #       MODE BUDGET MESSAGE  answer=..    a run and what the console prints, its lines in one and absent values left out; MESSAGE is "text" or N times "text"
 #       line N: TEXT                      the listing with this line instead; several such lines, one under the other, go together
-#       line N: TEXT  VERDICT             the same, and what the check says of it: 'passes', or 'refused NUMBER PLACE'; lines of runs below run this table
-# A verdict is tried by a display run with budget 0 and no message, which is BUDGET at once for a table that passes; PLACE of LINE counts from the listing's first line. One line a
+#       line N: TEXT  VERDICT             the same, and what ./check prints for it: 'passed', or as '5 TYPE, place 0'; runs below are of this table
+# A verdict is tried by a display run with budget 0 and no message, which is BUDGET at once for a table that passes; the place of LINE counts from the listing's first line. One line a
 # block; exit 1 at the first that isn't as said, and where a fence has other words, a block is empty or not closed, an answer, a verdict or a table is missing, a change changes
 # nothing, or there is no block at all.
 # READER_CONSOLE is the command that starts the program, a word a line; without it, tests/console_command.sh tells.
@@ -57,15 +57,19 @@ bytes_in_hex() { # MESSAGE
 
 # The table at hand is $room/table.
 judge() { # VERDICT
-    local said number place
+    local said number name place
     { printf 'mode=display\nbudget=0\nmessage=\n'; cat "$room/table"; } | ask
     said=$(in_one_line)
-    if [ "$1" = passes ]; then
+    if [ "$1" = passed ]; then
         [[ $said =~ ^answer=9\ place=[0-9]+\ consumed=0\ visits=0$ ]] || wrong "it doesn't pass: $said"
         return
     fi
-    read -r _ number place <<<"$1"
-    [ "$number" != 20 ] || place=$((place + 3))
+    read -r number name _ place <<<"$1"
+    case "$number $name" in
+    '2 FIELD,' | '3 USE,' | '4 START,' | '5 TYPE,') ;;
+    '20 LINE,') place=$((place + 3)) ;;
+    *) wrong "no such verdict: $1" ;;
+    esac
     [ "$said" = "answer=$number place=$place consumed=0 visits=0" ] || wrong "not $1: $said"
 }
 
@@ -83,7 +87,7 @@ change_line() { # NUMBER TEXT
 try_lines() { # FILE LISTING
     local line number text verdict pending=''
     local run='^(bench|display) ([0-9]+) (([0-9]+ times )?"[^"]*") +(answer=.*)$'
-    local judged='^line ([0-9]+): (.*[^ ])  +(passes|refused [0-9]+ [0-9]+)$'
+    local judged='^line ([0-9]+): (.*[^ ])  +(passed|[0-9]+ [A-Z]+, place [0-9]+)$'
     cp "$2" "$room/table"
     while IFS= read -r line; do
         if [[ $line =~ $run ]]; then
@@ -115,7 +119,7 @@ try_block() { # FILE WORDS
         [ ! -f "$last" ] || wrong "a second listing of this name: ${2#listing }"
         cp "$1" "$last"
         cp "$1" "$room/table"
-        judge passes
+        judge passed
         ;;
     tried) try_lines "$1" "$last" ;;
     'tried '[a-z]*)

@@ -40,9 +40,9 @@ node=19 0 0 0 0 0 0 0 0 0
 display 1000 "GG"          answer=0 place=0 consumed=1 visits=2 value=3 47
 display 1000 2 times "G"   answer=0 place=0 consumed=1 visits=2 value=3 47
 line 5: node=2 70 0 0 0 0 0 0 0 0
-line 7: node=19 1 0 0 0 0 0 0 0 0    refused 5 0
+line 7: node=19 1 0 0 0 0 0 0 0 0    5 TYPE, place 0
 bench 1000 "F"             answer=11 place=2 consumed=0 visits=2
-line 2: nodes=2                      refused 20 7
+line 2: nodes=2                      20 LINE, place 7
 ```
 ```tried small
 display 1 "G"              answer=9 place=0 consumed=0 visits=1
@@ -73,12 +73,13 @@ broken 'no block' 'no block' 's/^```.*//'
 broken 'a listing that is refused' "it doesn't pass: answer=5" '30s/19 0/19 1/'
 broken 'a listing that breaks off' "it doesn't pass: answer=20" '30d'
 broken 'a second listing of a name' 'a second listing of this name' 's/^```console$/```listing small/; s/^```answer$/```tried/; 2,4d; 14,21d; 13s/$/\ndisplay 0 ""  answer=9 place=1 consumed=0 visits=0/'
-broken 'another verdict' 'not refused 5 1: answer=5 place=0' 's/refused 5 0/refused 5 1/'
-broken 'another line' 'not refused 20 6: answer=20 place=10' 's/refused 20 7/refused 20 6/'
-broken 'a wrong table that is said to pass' "it doesn't pass: answer=5" 's/refused 5 0/passes/'
-broken 'a right table that is said to be refused' 'not refused 5 0: answer=9' 's/^line 7: node=19 1/line 7: node=19 0/; /^line 5/d; s/^line 7:.*/line 5: node=2 70 0 0 0 0 0 0 0 0  refused 5 0/'
-broken 'a change without a verdict' 'no verdict: line 7' 's/ +refused 5 0//'
-broken 'a change without a verdict at the end' 'no verdict: line 2' 's/ +refused 20 7//'
+broken 'another verdict' 'not 5 TYPE, place 1: answer=5 place=0' 's/TYPE, place 0/TYPE, place 1/'
+broken 'another line' 'not 20 LINE, place 6: answer=20 place=10' 's/LINE, place 7/LINE, place 6/'
+broken 'another name of a verdict' 'no such verdict: 5 FIELD' 's/5 TYPE/5 FIELD/'
+broken 'a wrong table that is said to pass' "it doesn't pass: answer=5" 's/5 TYPE, place 0/passed/'
+broken 'a right table that is said to be refused' 'not 5 TYPE, place 0: answer=9' '/^line 5/d; s/^line 7:.*/line 5: node=2 70 0 0 0 0 0 0 0 0  5 TYPE, place 0/'
+broken 'a change without a verdict' 'no verdict: line 7' 's/ +5 TYPE, place 0//'
+broken 'a change without a verdict at the end' 'no verdict: line 2' 's/ +20 LINE, place 7//'
 broken 'a change that changes nothing' 'it changes nothing: line 5' 's/^line 5: node=2 70/line 5: node=2 71/'
 broken 'a change of a line that is not there' 'it changes nothing: line 8' 's/^line 5:/line 8:/'
 broken 'a run with another answer' 'display 1000 "GG": not as said' '/"GG"/s/visits=2/visits=1/'
