@@ -7,7 +7,6 @@ archive=$PWD/target/staticlib/libexports.a
 . tests/kit.sh
 newest=$(find crates crates.txt "$kit/KIT-ID" -type f -newer "$archive" -print -quit 2>/dev/null || echo none)
 if [ ! -f "$archive" ] || [ -n "$newest" ]; then
-    mkdir -p target/log
-    rt staticlib exports >target/log/archive 2>&1 || { tail -n 20 target/log/archive >&2; exit 1; }
+    tests/prove.sh archive staticlib exports
 fi
 echo "$archive"

@@ -14,7 +14,7 @@ trap 'rm -rf "$room"' EXIT
 # target/module: module.bc, and words, what clang was told with it, a word a line, but for the names of the files.
 make() {
     local needs words
-    rt check exports >"$folder/log" 2>&1 || { tail -n 20 "$folder/log" >&2; exit 1; }
+    tests/prove.sh module check exports
     mkdir "$room/bin"
     # The kit's compiler hands a module to clang: this one keeps it, and the words.
     cat >"$room/bin/clang" <<WRAP
