@@ -106,6 +106,7 @@ od -An -v -tu1 -- "$2" | awk -v form="$1" -v at="$3" '
         for (j = 1; j < n && j < 20 && b[j] != 61; j++) continue
         found = ""
         for (i = 1; i <= j; i++) found = found (b[i] >= 32 && b[i] < 127 ? sprintf("%c", b[i]) : "?")
+        if (form == "listing" && found == "mode=" && said) return
         if (tolower(found) == key) { say("the key is " key ", in lower case"); return }
         say(shown(1, n) " stands there; wanted here: " which shape)
         if (form == "console" && key == "mode=" && found == "rules=") say("a listing alone: before it a console input has mode=, budget= and message=; ./check takes a listing")
@@ -138,7 +139,7 @@ od -An -v -tu1 -- "$2" | awk -v form="$1" -v at="$3" '
         if (n && blank(b[n])) { say(character(b[n]) " stands at its end"); while (n && blank(b[n])) n-- }
         for (i = 1; i < n && blank(b[i]); i++) continue
         if (n && i > 1) {
-            say(character(b[1]) " stands before " key)
+            say(character(b[1]) " stands at its beginning")
             for (kept = 0; i <= n; i++) b[++kept] = b[i]
             n = kept
         }

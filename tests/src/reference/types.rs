@@ -27,7 +27,7 @@ pub fn type_check(words: &[u16], literals: &[u8]) -> (u32, u32) {
     }
 }
 
-fn rule_passes(table: &Table, rule: usize) -> bool {
+pub fn rule_passes(table: &Table, rule: usize) -> bool {
     let mut slots = [0; SLOTS];
     for (index, slot) in slots.iter_mut().enumerate().take(table.inherited(rule)) {
         *slot = table.inherited_type(rule, index);

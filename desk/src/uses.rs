@@ -1,0 +1,60 @@
+//! USE in words: who uses the node.
+
+use super::page::Page;
+use reader_tests::reference::table::{wants, Want};
+
+/// Nothing where the node is used exactly once. The fields of the table are
+/// right, since FIELD comes before USE.
+pub fn advice(page: &Page, node: usize) -> Option<String> {
+    let users = users(page, node);
+    let what = page.node(node);
+    match users.len() {
+        0 => Some(format!(
+            "{what}: nobody uses it; each node is a part, an argument, a body or a returned node, exactly once"
+        )),
+        1 => None,
+        count => Some(format!(
+            "{what}: it is used {count} times, and must be once: {}",
+            users.join("; ")
+        )),
+    }
+}
+
+/// Each word that names the node is a use.
+fn users(page: &Page, node: usize) -> Vec<String> {
+    let table = &page.table;
+    let mut users = Vec::new();
+    for rule in 0..table.rules() {
+        if table.body(rule) == node {
+            users.push(format!("the body of {}", page.rule(rule)));
+        }
+        for index in 0..table.returned(rule) {
+            if table.returned_node(rule, index) == node {
+                users.push(format!(
+                    "returned node {} of {}",
+                    index + 1,
+                    page.rule(rule)
+                ));
+            }
+        }
+    }
+    for user in 0..table.nodes() {
+        let fields = (0..9).filter(|&field| names_a_node(page, user, field));
+        let named = fields.filter(|&field| table.part(user, field) == node);
+        users.extend(named.map(|field| {
+            let letter = char::from(b'a' + field as u8);
+            format!("field {letter} of {}", page.node(user))
+        }));
+    }
+    users
+}
+
+/// A part, or an argument that the callee has.
+fn names_a_node(page: &Page, node: usize, field: usize) -> bool {
+    let table = &page.table;
+    match wants(table.kind(node))[field] {
+        Want::Part(_) => true,
+        Want::Argument(index) => index < table.inherited(table.part(node, 0)),
+        _ => false,
+    }
+}
