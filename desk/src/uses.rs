@@ -6,6 +6,9 @@ use reader_tests::reference::table::{wants, Want};
 /// Nothing where the node is used exactly once. The fields of the table are
 /// right, since FIELD comes before USE.
 pub fn advice(page: &Page, node: usize) -> Option<String> {
+    if node >= page.table.nodes() {
+        return None;
+    }
     let users = users(page, node);
     let what = page.node(node);
     match users.len() {
@@ -39,22 +42,23 @@ fn users(page: &Page, node: usize) -> Vec<String> {
         }
     }
     for user in 0..table.nodes() {
-        let fields = (0..9).filter(|&field| names_a_node(page, user, field));
-        let named = fields.filter(|&field| table.part(user, field) == node);
-        users.extend(named.map(|field| {
-            let letter = char::from(b'a' + field as u8);
-            format!("field {letter} of {}", page.node(user))
-        }));
+        let wants = wants(table.kind(user));
+        for (field, &want) in wants.iter().enumerate() {
+            if table.part(user, field) == node && names_a_node(page, user, want) {
+                let letter = char::from(b'a' + field as u8);
+                users.push(format!("field {letter} of {}", page.node(user)));
+            }
+        }
     }
     users
 }
 
 /// A part, or an argument that the callee has.
-fn names_a_node(page: &Page, node: usize, field: usize) -> bool {
+fn names_a_node(page: &Page, user: usize, want: Want) -> bool {
     let table = &page.table;
-    match wants(table.kind(node))[field] {
+    match want {
         Want::Part(_) => true,
-        Want::Argument(index) => index < table.inherited(table.part(node, 0)),
+        Want::Argument(index) => index < table.inherited(table.part(user, 0)),
         _ => false,
     }
 }
