@@ -144,8 +144,11 @@ od -An -v -tu1 -- "$2" | awk -v form="$1" -v at="$3" '
             n = kept
         }
     }
+    function returns_inside(i) {
+        for (i = 1; i < n; i++) if (b[i] == 13) return 1
+        return 0
+    }
     function inside(i) {
-        for (i = 1; i <= n; i++) if (b[i] == 13) { say("carriage returns (byte 13) stand in it: every line ends with byte 10 alone"); return }
         if (n == 0) { if (!said) say("it is empty; wanted here: " which shape); return }
         if (!has_key()) { look_at_key(); return }
         i = length(key) + 1
@@ -164,6 +167,7 @@ od -An -v -tu1 -- "$2" | awk -v form="$1" -v at="$3" '
             say("the file begins with a byte order mark of UTF-16: save it as plain ASCII")
         else if (!there) missing()
         else if (key == "") after_the_last()
+        else if (returns_inside()) say("carriage returns (byte 13) stand in it: every line ends with byte 10 alone")
         else { around(); inside() }
         if (!said) say("wanted here: " which shape)
     }'

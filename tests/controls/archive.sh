@@ -7,3 +7,12 @@ echo broken >>crates/laws/specs/Range.antt
 for script in archive library module console_command; do
     fails "$script.sh, of a crate that is not proved" 'laws is not proved' "tests/$script.sh"
 done
+
+# And where rt says nothing of the crate: such an rt only knows its guide.
+mkdir "$room/bin"
+printf '#!/bin/sh\n[ "$1" != doc ] || exec "%s" doc\n' "$(type -P rt)" >"$room/bin/rt"
+chmod +x "$room/bin/rt"
+PATH=$room/bin:$PATH
+for script in archive module console_command; do
+    fails "$script.sh, with an rt that does nothing" 'says nothing of' "tests/$script.sh"
+done
