@@ -21,15 +21,22 @@ streams() { # INPUT
 
 # The first bytes of the input, - for standard input, into a file; however long it is, no more than these are read.
 take() { # INPUT BYTES FILE
+    local why
     if [ "$1" = - ]; then
         [ ! -d /dev/stdin ] || stop 'standard input is a directory'
-        head -c "$2" >"$3" 2>/dev/null || stop 'standard input cannot be read'
+        why=$(head -c "$2" 2>&1 >"$3") || stop "standard input cannot be read: ${why##*: }"
         return
     fi
     [ ! -d "$1" ] || stop "'$1' is a directory"
     [ -e "$1" ] || stop "there is no file '$1'"
     [ -r "$1" ] || stop "'$1' may not be read"
-    head -c "$2" -- "$1" >"$3" 2>/dev/null || stop "'$1' cannot be read"
+    why=$(head -c "$2" -- "$1" 2>&1 >"$3") || stop "'$1' cannot be read: ${why##*: }"
+}
+
+# A folder of its own for what is in between, which goes with the command.
+make_room() {
+    room=$(mktemp -d 2>/dev/null) || stop "there is no room for temporary files in ${TMPDIR:-/tmp}"
+    trap 'rm -rf "$room"' EXIT
 }
 
 # A file to standard output: all of it, or the status is 2.

@@ -102,6 +102,8 @@ unreadable() {
         says_one_line "$command, standard input is only written" "$command: standard input cannot be read"
         try "$command, two words" 2 "./$command $sample.console $sample.console"
         says_one_line "$command, two words" "$command: usage: ./$command ["
+        try "$command, no room" 2 "TMPDIR=/no/such-folder ./$command $sample.console"
+        says_one_line "$command, no room" "$command: there is no room for temporary files in /no/such-folder"
         try "$command, an error that nobody hears" 2 "./$command no/such-file 2>&-"
     done
     try 'check, an endless input' 2 './check /dev/zero'
@@ -415,8 +417,15 @@ head_hints() {
     hint 'a budget with a space' 2 "sed 's/budget=2/budget= 2/'" 'a space stands after budget='
     hint 'rules=0' 4 "sed s/rules=1/rules=0/" '"0" stands there, rules= is 1 to 64'
     hint 'rules=65' 4 "sed s/rules=1/rules=65/" '"65" stands there, rules= is 1 to 64'
+    hint 'no number' 4 "sed s/rules=1/rules=/" 'no number stands after rules='
+    hint 'a head with a leading zero' 4 "sed s/rules=1/rules=01/" '"01" has a leading zero'
+    hint 'a head with a plus sign' 4 "sed s/rules=1/rules=+1/" '"+1" has a plus sign'
+    hint 'a head below 0' 4 "sed s/rules=1/rules=-1/" '"-1" has a minus sign'
+    hint 'a head with a space' 4 "sed 's/rules=1/rules= 1/'" 'a space stands after rules='
     hint 'nodes=1025' 5 "sed s/nodes=3/nodes=1025/" '"1025" stands there, nodes= is 1 to 1024'
     hint 'no digit' 5 "sed s/nodes=3/nodes=x/" '"x" is no decimal digit'
+    hint 'an unknown key' 5 "sed s/nodes=3/knots=3/" '"knots=3" stands there; wanted here: nodes= and a decimal, 1 to 1024'
+    hint 'an upper-case key of a record' 8 "sed 8s/node/Node/" 'the key is node=, in lower case'
     hint 'another key' 5 "sed s/nodes=3/rules=3/" '"rules=3" stands there; wanted here: nodes= and a decimal, 1 to 1024'
 }
 

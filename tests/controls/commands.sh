@@ -29,7 +29,7 @@ fresh
 change desk/streams.sh '/\$1. is a directory/d'
 fails 'a directory that is not told' "does not say: run: 'examples' is a directory" tests/commands.sh unreadable
 fresh
-change desk/streams.sh 's/cannot be read"$/cannot be read" || true/; s/^    head(.*) \|\| stop .*/    head\1 || true/'
+change desk/streams.sh 's/\|\| stop ".* cannot be read: .*/|| true/'
 fails 'a read error that is not told' 'a file whose reading fails: it ended with 1, not with 2' tests/commands.sh unreadable
 fresh
 change desk/streams.sh 's/\|\| stop "\$2 could not be written"/|| true/'
