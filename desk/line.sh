@@ -71,7 +71,7 @@ od -An -v -tu1 -- "$2" | awk -v form="$1" -v at="$3" '
     }
     # The numbers of a record: the first thing that is wrong, and how many there are.
     function look_at_numbers(i, j, many, found, unread) {
-        if (blank(b[i])) found = character(b[i]) " stands after " key
+        if (i <= n && blank(b[i])) found = character(b[i]) " stands after " key
         for (; i <= n; i = j + 1) {
             for (j = i; j < n && !blank(b[j + 1]); j++) continue
             if (blank(b[i])) {
@@ -149,7 +149,7 @@ od -An -v -tu1 -- "$2" | awk -v form="$1" -v at="$3" '
         return 0
     }
     function inside(i) {
-        if (n == 0) { if (!said) say("it is empty; wanted here: " which shape); return }
+        if (n == 0) { say("it is empty; wanted here: " which shape); return }
         if (!has_key()) { look_at_key(); return }
         i = length(key) + 1
         if (key == "mode=") { if (shown(i, n) !~ /^"(bench|display)"$/) say(shown(i, n) " stands after mode=, bench or display was wanted") }

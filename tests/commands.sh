@@ -10,6 +10,7 @@ trap 'rm -rf "$room"' EXIT
 sample=examples/case-a/case-a
 whole=tests/commands/whole.listing
 operators=tests/commands/operators.listing
+order=tests/commands/order.listing
 tried=0
 
 wrong() { # NAME TEXT
@@ -245,7 +246,7 @@ judged() { # LISTING SED VERDICT ADVICE..
 
 verdicts() {
     local listing
-    for listing in "$whole" "$operators"; do
+    for listing in "$whole" "$operators" "$order"; do
         try "./check $listing" 0 "./check $listing"
         prints_line "./check $listing" passed
         says_nothing "./check $listing"
@@ -261,6 +262,7 @@ verdicts() {
     node_fields
     uses
     types
+    smallest
     operand_types
     in_console_input
     longest
@@ -323,9 +325,14 @@ types() {
     judged $whole '19s/5 12 0/8 5 12/' '5 TYPE, place 1' 'node 14 (line 20), not: slot 5 is unset before its part and Text after it'
     judged $whole '19s/5 12 0/8 5 12/; 20s/6 13/5 13/' '5 TYPE, place 1' 'node 14 (line 20), repeat: slot 5 is unset before its part and Text after it'
     judged $whole '4s/3 0 0 0$/2 0 0 0/' '5 TYPE, place 0' 'node 9 (line 15), slot: returned node 1 is Text, the rule declares Integer'
-    # two that fail, and the smaller is told; after a first part that fails the second is not judged
+}
+
+# Of several nodes that fail the smallest is told; but what would start from the slots that a failing part has not left is not judged.
+smallest() {
     judged $whole '6s/17 0 5/19 7 0/; 7s/18 1 2/19 8 0/' '5 TYPE, place 0' 'node 0 (line 6), slot: slot 7 has no type here'
-    judged $whole '17s/9 4 10/9 1 10/; 24s/19 4/19 7/' '5 TYPE, place 1' 'node 11 (line 17), update of slot 1'
+    judged $order '6s/16 1/17 1/; 8s/16 1/17 1/' '5 TYPE, place 0' 'node 4 (line 9), constraint'
+    judged $order '6s/16 1/17 1/; 8s/16 1/17 1/; 10s/=3/=4/' '5 TYPE, place 0' 'node 2 (line 7), constraint'
+    judged $order '8s/16 1/17 1/; 5s/16 0/19 5/' '5 TYPE, place 0' 'node 4 (line 9), constraint'
 }
 
 operand_types() {
@@ -465,6 +472,8 @@ line_hints() {
     hint 'a space at the end, and a leading zero' 8 "sed '8s/71/071/; 8s/\$/ /'" 'a space stands at its end' 'has a leading zero'
     hint 'a space at the beginning' 8 "sed '8s/^/ /'" 'a space stands at its beginning'
     hint 'an empty line' 9 "sed '9s/^/\n/'" 'it is empty; wanted here: node 1, node= and 10 decimals'
+    hint 'a line of spaces' 9 "sed '9s/^/  \n/'" 'a space stands at its end' 'it is empty; wanted here: node 1, node='
+    hint 'a key alone, with a space' 9 "sed '9s/=.*/= /'" 'a space stands at its end' '0 numbers stand there, 10 were wanted'
     hint 'a rule for a node' 8 "sed '8s/node/rule/'" 'stands there; wanted here: node 0, node=' 'the head says 1 rule and 3 nodes: is that so?'
     hint 'no line end' 10 "head -c -1" 'its line end is missing: every line ends with byte 10'
     hint 'a line that breaks off' 10 "head -c -11" 'its line end is missing' '5 numbers stand there, 10 were wanted'
