@@ -38,7 +38,7 @@ follow() { # HOW-MANY
     done >"target/log/$name"
 }
 
-tell "proving and building the reader, rt $*: the first time this usually takes about 7 minutes on two processors; what rt says is in target/log/$name"
+tell "proving and building the reader, rt $*: the first time this usually takes about 7 minutes on two processors, less where most is proved already; what rt says is in target/log/$name"
 status=0
 all=$(how_many)
 rt "$@" </dev/null 2>&1 | follow "$all" || status=${PIPESTATUS[0]}
