@@ -2,7 +2,7 @@
 # controls.sh [NAME..]: shows that the gate's scripts fail. controls/NAME.sh breaks one thing after the other in a copy of what tests/NAME.sh looks at, and there the script
 # must fail and say what is wrong; the copy as it stands must pass (archive: of library, module, console_command and prove too; commands: of ./run, ./check, desk/*.sh, kit and prove; test: of ./test itself). So a script that looks at nothing any more is told. One line a control; exit 1 if one isn't as it must,
 # and where a file of controls isn't there, breaks off or shows nothing.
-# (That a wrong proof is refused is rt ci's own. The wrong programs have a control in every crate besides those here.) Those of console, authors, commands, vectors, shipped, targets, stack, must_fail and wrong_definitions need
+# (That a wrong proof is refused is rt ci's own. The wrong programs have a control in every crate besides those here.) Those of console, authors, commands, vectors, shipped, targets, stack, firmware, must_fail and wrong_definitions need
 # what ./test has built before them and set: READER_CONSOLE, READER_LIBRARY, READER_SHIPPED.
 set -euo pipefail
 cd "$(dirname "$0")/.."

@@ -15,12 +15,13 @@ library=${READER_LIBRARY:-$(tests/library.sh)}
 parts=("$@")
 [ $# -gt 0 ] || parts=(warnings console use rows array fitted cross)
 strict=(-std=c99 -pedantic -Wall -Wextra -Wconversion -Werror)
-rust=(rustc --edition 2021 -D warnings -O -L "$(dirname "$library")" -l static=styrmflo)
+rust=(rustc --edition 2021 -D warnings -L "$(dirname "$library")" -l static=styrmflo)
 up=examples/floor-direction-name/up
 
 wrong() { echo "firmware, $*"; exit 1; }
 
-# The sanitizers, if cc has them.
+# The sanitizers, if cc has them. What they find ends a program with 99.
+export ASAN_OPTIONS=exitcode=99:detect_leaks=0 UBSAN_OPTIONS=exitcode=99
 sanitizers=(-g "-fsanitize=address,undefined" -fno-sanitize-recover=all)
 echo 'int main(void) { return 0; }' >"$room/probe.c"
 if ! { cc "${sanitizers[@]}" "$room/probe.c" -o "$room/probe" && "$room/probe"; } >/dev/null 2>&1; then
@@ -35,6 +36,13 @@ program() { # NAME FILE WORDS..
     cc "${strict[@]}" -O1 "${sanitizers[@]}" -I docs -I "$room" "$@" "$file" "$library" -o "$room/$name" >"$room/log" 2>&1 || { cat "$room/log"; wrong "$file: not compiled"; }
 }
 
+# Runs a program, which ends with 0; what it printed is in said.
+run() { # NAME
+    local came=0
+    "$room/$1" >"$room/said" 2>"$room/told" || came=$?
+    [ "$came" = 0 ] || { cat "$room/told"; wrong "$1: ended with $came"; }
+}
+
 rust_program() { # NAME FILE
     "${rust[@]}" "$2" -o "$room/$1" >"$room/log" 2>&1 || { cat "$room/log"; wrong "$2: not compiled"; }
 }
@@ -46,14 +54,13 @@ programs() {
     rust_program display_rs examples/firmware/display.rs
 }
 
-# Runs both with these words: they end alike and print the same. status, and the file said.
+# Runs both with these words: they end alike and print the same. Then status and the files said and told have what came.
 both() {
     status=0
     "$room/display_c" "$@" >"$room/said" 2>"$room/told" || status=$?
     local other=0
     "$room/display_rs" "$@" >"$room/said_rs" 2>"$room/told_rs" || other=$?
-    # a program that doesn't end as it says, by a sanitizer for instance
-    case $status$other in [012][012]) ;; *) cat "$room/told" "$room/told_rs"; wrong "display $*: ended with $status in C, $other in Rust" ;; esac
+    case $status:$other in [012]:[012]) ;; *) cat "$room/told" "$room/told_rs"; wrong "display $*: ended with $status in C, with $other in Rust" ;; esac
     if [ "$status" != "$other" ] || ! cmp -s "$room/said" "$room/said_rs" || ! cmp -s "$room/told" "$room/told_rs"; then
         diff "$room/said" "$room/said_rs" || true
         diff "$room/told" "$room/told_rs" || true
@@ -227,7 +234,7 @@ rows() {
     program rows_short tests/firmware/rows.c -fshort-enums
     rust_program rows_rs tests/firmware/rows.rs
     for name in rows_c rows_short rows_rs; do
-        "$room/$name" >"$room/said" 2>"$room/told" || { cat "$room/told"; wrong "$name: ended with $?"; }
+        run "$name"
         cmp -s "$room/said" tests/firmware/rows.stored || { diff tests/firmware/rows.stored "$room/said" || true; wrong "$name: not what tests/firmware/rows.stored says"; }
     done
     echo 'firmware, rows: numbers and tags, those without a row too, as stored'
@@ -367,7 +374,7 @@ example_values() {
 fitted() {
     ./array "$up.console" >"$room/table.h" || wrong './array: no table'
     program fitted examples/firmware/fitted.c
-    "$room/fitted" >"$room/said" 2>"$room/told" || { cat "$room/told"; wrong "fitted: ended with $?"; }
+    run fitted
     cmp -s "$room/said" tests/firmware/fitted.stored || { diff tests/firmware/fitted.stored "$room/said" || true; wrong 'fitted: not what tests/firmware/fitted.stored says'; }
     { shown "$(line_of "$up.console" message)"; example_values; } >"$room/expected"
     cmp -s "$room/expected" <(head -n 4 "$room/said") || wrong "fitted: not the values of $up.answer"
