@@ -2,9 +2,11 @@
 # firmware.sh [PART..]: tries examples/firmware and ./array as a firmware engineer would. The parts, all of them if none is named:
 # warnings: every C file compiles without a warning, by each of cc, gcc and clang that is there; header and array as C++11 too; the Rust file with warnings denied.
 # console: display, in C and in Rust, on the table and message of every display input of examples/ and tests/console: what is printed is the stored answer in words.
-# use: messages as files and of every length that matters, wrong use, files that can't be read, output that is lost, another version. Every number that a run or a listing can give is reached.
+# use: messages as files and of every length that matters, wrong use, files that can't be read, output that is lost, another version. With console: every number that display
+# can come to is reached.
 # rows: numbers and tags that no run gives and such as have no row, through the functions of display (tests/firmware/rows.c, rows.rs), also where an enum is one byte.
 # array: ./array's arrays, written back by styrmflo_write, are the listing; what it refuses, and its exit statuses.
+# readme: the commands of examples/firmware/README.md, 'At the desk', print what stands there.
 # fitted: a table turned into C, compiled into fitted.c, gives the example's values. cross: the same for thumbv7em, run where qemu-arm is.
 # C runs with the address and undefined-behaviour sanitizers where cc has them. READER_LIBRARY is the library (tests/library.sh).
 set -euo pipefail
@@ -13,7 +15,7 @@ room=$(mktemp -d)
 trap 'rm -rf "$room"' EXIT
 library=${READER_LIBRARY:-$(tests/library.sh)}
 parts=("$@")
-[ $# -gt 0 ] || parts=(warnings console use rows array fitted cross)
+[ $# -gt 0 ] || parts=(warnings console use rows array fitted cross readme)
 strict=(-std=c99 -pedantic -Wall -Wextra -Wconversion -Werror)
 rust=(rustc --edition 2021 -D warnings -L "$(dirname "$library")" -l static=styrmflo)
 up=examples/floor-direction-name/up
@@ -406,10 +408,23 @@ cross() {
     echo 'firmware, cross: thumbv7em, by qemu-arm, the values as stored'
 }
 
+readme() {
+    local page=examples/firmware/README.md
+    sed -n '/^## At the desk/,/^## For/s/^    //p' "$page" >"$room/commands"
+    sed -n '/^## At the desk/,/^## For/{/^```/,/^```/{/^```/!p}}' "$page" >"$room/expected"
+    [ -s "$room/commands" ] || wrong "$page: no command"
+    bash -euo pipefail "$room/commands" >"$room/said" 2>"$room/told" || { cat "$room/told"; wrong "$page: its commands fail"; }
+    cmp -s "$room/said" "$room/expected" || { diff "$room/expected" "$room/said" || true; wrong "$page: its commands print something else"; }
+    [ ! -s "$room/told" ] || { cat "$room/told"; wrong "$page: its commands have a warning"; }
+    target/firmware/display_rs target/firmware/floor.listing 4631325e526f6f662067617264656e2e | cmp -s - "$room/expected" || wrong "$page: display_rs prints something else"
+    target/firmware/fitted | cmp -s - tests/firmware/fitted.stored || wrong "$page: fitted prints something else"
+    echo 'firmware, readme: the commands print what stands there'
+}
+
 for part in "${parts[@]}"; do
     case $part in
         console | use) programs; "$part" ;;
-        warnings | rows | array | fitted | cross) "$part" ;;
+        warnings | rows | array | fitted | cross | readme) "$part" ;;
         *) wrong "$part: no such part" ;;
     esac
 done

@@ -78,7 +78,8 @@ static void put_table(const char *name)
 {
     const uint64_t rules = words[0], nodes = words[1], count = words[2];
     const uint64_t all = 3 + 15 * rules + 10 * nodes;
-    printf("/* A table that passes the type check. Rules: %" PRIu64 ", nodes: %" PRIu64 ", literal bytes: %" PRIu64 ". Written by ./array from its listing. */\n", rules, nodes, count);
+    printf("/* A table that passes the type check. Rules: %" PRIu64 ", nodes: %" PRIu64 ", literal bytes: %" PRIu64 ". Written by ./array from its listing. */\n", rules,
+           nodes, count);
     printf("#ifndef %s_TABLE_H\n#define %s_TABLE_H\n\n#include <stdint.h>\n\n", name, name);
     printf("enum { %s_words_count = %" PRIu64 ", %s_literals_count = %" PRIu64 " };\n\n", name, all, name, count);
     printf("static const uint16_t %s_words[%" PRIu64 "] = {\n", name, all);

@@ -12,6 +12,8 @@ fresh() {
     printf '#!/bin/sh\necho "%s"\n' "$READER_LIBRARY" >tests/library.sh
     printf '#!/bin/sh\nprintf "%s/"\ncd "%s" && exec ./library "$@"\n' "$top" "$top" >library
     chmod +x library
+    mkdir target
+    ln -s "$top/target/library" target/library
 }
 
 changed() { # NAME TEXT PART FILE SED-COMMAND
@@ -69,6 +71,10 @@ changed 'a rest that is shown' 'not what tests/firmware/fitted.stored says' fitt
 changed 'a table that is not checked' 'shows something by a table that fails the type check' fitted "$fitted" 's/ && styrmflo_type_check\(.*\) == 0;/;/'
 changed 'another stored value, fitted' 'not the values of' fitted examples/floor-direction-name/up.answer 's/value=2 12/value=2 13/'
 changed 'a C library that is not there' 'thumbv7em: a warning' cross "$fitted" 's/^#include "table.h"/&\n#include <string.h>/'
+
+changed 'a command that fails' 'its commands fail' readme examples/firmware/README.md 's/^    (tail -n \+4 .*)floor\.listing$/    \1other.listing/'
+changed 'a page that says something else' 'its commands print something else' readme examples/firmware/README.md 's/^value 0: Integer 12$/value 0: Integer 13/'
+changed 'a page without commands' 'no command' readme examples/firmware/README.md 's/^    //'
 
 # what only a sanitizer sees, where cc has them
 fresh
