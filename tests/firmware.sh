@@ -271,6 +271,17 @@ array_ends() { # STATUS TEXT WORDS..
     [ "$came" = "$must" ] || { cat "$room/told"; wrong "./array $*: ended with $came, not with $must"; }
     if [ "$must" != 0 ] && [ -s "$room/said" ]; then wrong "./array $*: refused, and written all the same"; fi
     [ -z "$text" ] || grep -qF -e "$text" "$room/told" || { cat "$room/told"; wrong "./array $*: doesn't say: $text"; }
+    # what the script itself answers, and what can be read only once
+    case $#:${1:-} in 1:-* | [12]:/dev/fd/*) ;; [12]:*) array_again "$came" "$1" "${2:-table}" ;; esac
+}
+
+# The program behind ./array with the sanitizers: the same.
+array_again() { # STATUS LISTING NAME
+    local came=0
+    [ -f "$room/array_c" ] || program array_c examples/firmware/array.c
+    "$room/array_c" "$2" "$3" >"$room/said_again" 2>"$room/told_again" || came=$?
+    [ "$came" = "$1" ] || { cat "$room/told_again"; wrong "array.c, $2: ended with $came"; }
+    cmp -s "$room/said" "$room/said_again" || wrong "array.c, $2: not what ./array writes"
 }
 
 # The greatest table: 64 rules, of which each calls the next, and a chain of nodes; all literals.
@@ -341,7 +352,7 @@ without() { # TOOL
 }
 
 array() {
-    local name
+    local name came
     arrays
     refusals
     array_ends 2 'array LISTING [NAME]'
@@ -352,6 +363,9 @@ array() {
     array_ends 2 'cannot read' "$room"
     # no line ends here: the first three, which are left out, would have no end
     array_ends 2 'cannot read' <(printf mode=; exec cat /dev/zero)
+    came=0
+    ./array "$up.console" >&- 2>"$room/told" || came=$?
+    [ "$came" = 2 ] || wrong "./array, standard output closed: ended with $came"
     lost ./array "$up.console"
     grep -qF 'array: the table could not be written' "$room/told" || wrong './array, to a full device: does not say so'
     without rt

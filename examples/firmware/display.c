@@ -35,8 +35,8 @@ static struct meaning means(const char *name, const char *text, enum action acti
 
 /* What an answer's number means. The switch has a case for each number of the header and no default, so that the compiler tells one that was forgotten (-Wswitch, in
    -Wall). A number that has no row ends behind the switch. An enum may be a single byte (-fshort-enums, which some compilers take by themselves), and 256 would become
-   DONE there: so the number is compared with what the enum keeps of it. After a passed check no run answers SIZE to TYPE, nor STUCK, and with these sizes none answers WORK or ROOM: firmware
-   handles them all the same, since memory can fail. */
+   DONE there: so the number is compared with what the enum keeps of it. After a passed check no run answers SIZE to TYPE, nor STUCK, and with these sizes WORK and ROOM
+   don't come: firmware handles them all the same, since memory can fail. */
 static struct meaning meaning_of(uint64_t number)
 {
     const enum styrmflo_number known = (enum styrmflo_number)number;

@@ -63,8 +63,8 @@ changed 'a table that is refused, written' 'ended with 0, not with 1' array "$ar
 changed 'other literals' 'another table' array "$array" 's/literals\[i\]\)/literals[i] ^ 1u)/'
 changed 'other words' "can't be written as a listing" array "$array" 's/put_words\(0, 3\)/put_words(1, 3)/'
 changed 'lines that count from the listing' 'another place than is stored' array "$array" 's/\? left_out : 0/? 0 : left_out/'
-changed 'a name that is none' 'ended with 0, not with 2' array "$array" 's/\|\| !is_name\(arguments\[2\]\)//'
-changed 'an array that is lost' 'to a full device: ended with 0' array "$array" 's/fflush\(stdout\) != 0 \|\| ferror\(stdout\)/0/'
+changed 'a name that is none' 'ended with 0, not with 2' array "$array" 's/MOST_NAME = 48/MOST_NAME = 49/'
+changed 'an array that is lost' 'standard output closed: ended with 0' array "$array" 's/fflush\(stdout\) != 0 \|\| ferror\(stdout\)/0/'
 changed 'no look for cc' './array without cc' array array 's/for tool in rt cc/for tool in rt/'
 
 changed 'a rest that is shown' 'not what tests/firmware/fitted.stored says' fitted "$fitted" 's/ && record\[STYRMFLO_CONSUMED\] == count/ \&\& record[STYRMFLO_CONSUMED] <= count/'
@@ -83,5 +83,6 @@ if grep -q 'cc has no address and undefined-behaviour sanitizers' <<<"$(tests/fi
 else
     changed 'a read past the message and the literals' 'global-buffer-overflow' fitted "$fitted" 's/^        put_byte\(bytes\[i\]\);/        { const volatile uint8_t *past = bytes + i + 20; (void)*past; put_byte(bytes[i]); }/'
     changed 'a write past the message' 'global-buffer-overflow' use "$c" 's/take_file\(text \+ 1, message, sizeof message,/take_file(text + 1, message, sizeof message + 1,/'
+    changed 'a write past the listing' 'global-buffer-overflow' array "$array" 's/sizeof listing - came, file/sizeof listing, file/'
     changed 'an overflow' 'runtime error' rows "$c" 's/-\(int32_t\)\(UINT32_MAX - payload\) - 1/-(int32_t)payload/'
 fi
