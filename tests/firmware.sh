@@ -7,7 +7,7 @@
 # rows: numbers and tags that no run gives and such as have no row, through the functions of display (tests/firmware/rows.c, rows.rs), also where an enum is one byte.
 # array: ./array's arrays, written back by styrmflo_write, are the listing; what it refuses, and its exit statuses.
 # readme: the commands of examples/firmware/README.md, 'At the desk', print what stands there.
-# fitted: a table turned into C, compiled into fitted.c, gives the example's values. cross: the same for thumbv7em, run where qemu-arm is.
+# fitted: a table turned into C, compiled into fitted.c, gives the example's values. cross: the same for thumbv7em, run where an emulator of a Cortex-M4 is.
 # C runs with the address and undefined-behaviour sanitizers where cc has them. READER_LIBRARY is the library (tests/library.sh).
 set -euo pipefail
 cd "$(dirname "$0")/.."
@@ -404,22 +404,20 @@ fitted() {
 
 # Without a C library, for a small ARM processor.
 cross() {
-    local archive status=0
-    # shellcheck source=tests/kit.sh
-    . tests/kit.sh
+    local archive words status=0
     ./array "$up.console" >"$room/table.h" || wrong './array: no table'
     archive=$(./library thumbv7em | sed -n '1s/ .*//p')
     tests/c.sh docs/styrmflo.h --target=thumbv7em-none-eabi -fno-pic -Wconversion -I "$room" -Os -c examples/firmware/fitted.c -o "$room/fitted.o" || wrong 'fitted.c, thumbv7em: a warning'
     tests/c.sh docs/styrmflo.h --target=thumbv7em-none-eabi -fno-pic -Os -c tests/firmware/board.c -o "$room/board.o"
-    tests/c.sh docs/styrmflo.h --target=thumbv7em-none-eabi -fno-pic -fno-builtin -O2 -c tests/shipped/bare.c -o "$room/bare.o"
-    "$own/toolchain/bin/ld.lld" --gc-sections "$room/fitted.o" "$room/board.o" "$room/bare.o" "$archive" -o "$room/fitted" || wrong 'fitted.c, thumbv7em: not linked'
-    { qemu-arm "$room/fitted" >"$room/said"; } 2>/dev/null || status=$?
+    words=$(tests/bare.sh thumbv7em-none-eabi "$room/fitted" "$room/fitted.o" "$room/board.o" "$archive") || wrong 'fitted.c, thumbv7em: not linked'
+    mapfile -t words <<<"$words"
+    { "${words[@]}" </dev/null >"$room/said"; } 2>/dev/null || status=$?
     case $status in
         0) cmp -s "$room/said" tests/firmware/fitted.stored || wrong 'fitted, thumbv7em: not what tests/firmware/fitted.stored says' ;;
-        126 | 127) echo 'firmware, cross: thumbv7em compiled and linked, not run: no qemu-arm here'; return ;;
+        126 | 127) echo "firmware, cross: thumbv7em compiled and linked, not run: no ${words[0]} here"; return ;;
         *) wrong "fitted, thumbv7em: ended with $status" ;;
     esac
-    echo 'firmware, cross: thumbv7em, by qemu-arm, the values as stored'
+    echo "firmware, cross: thumbv7em, by ${words[0]}, the values as stored"
 }
 
 readme() {

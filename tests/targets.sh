@@ -13,26 +13,6 @@ trap 'rm -rf "$room"' EXIT
 targets=("$@")
 [ $# -gt 0 ] || targets=(i686 armv7 thumbv7em aarch64 x86_64)
 
-# The command before a program for the target, a word a line: an emulator, or nothing where the program runs as it is.
-emulator() { # TARGET
-    case $1 in
-        i686-*) [ "$(uname -m)" = x86_64 ] || echo qemu-i386 ;;
-        aarch64-*) [ "$(uname -m)" = aarch64 ] || echo qemu-aarch64 ;;
-        arm*-linux-*) echo qemu-arm ;;
-        thumbv7em-none-*) printf '%s\n' qemu-system-arm -machine mps2-an386 -cpu cortex-m4 -display none -monitor none -serial none -semihosting-config enable=on,target=native -kernel ;;
-        *) echo "no-emulator-of-$1" ;;
-    esac
-}
-
-# The caller for the target, as a program that needs nothing but Linux, or a Cortex-M.
-caller() { # TARGET FOLDER
-    local header=${TARGETS_HEADER:-$2/styrmflo.h} layout=()
-    case $1 in thumb*-none-*) layout=(-T tests/shipped/cortex_m.ld -e 0) ;; esac
-    tests/c.sh "$header" --target="$1" -fno-pic -O2 -c tests/shipped/caller.c -o "$room/caller.o"
-    tests/c.sh "$header" --target="$1" -fno-pic -fno-builtin -O2 -c tests/shipped/bare.c -o "$room/bare.o"
-    "$own/toolchain/bin/ld.lld" --fatal-warnings "${layout[@]}" "$room/caller.o" "$room/bare.o" "$2/libstyrmflo.a" -o "$room/caller"
-}
-
 for name in "${targets[@]}"; do
     ./library "$name" >"$room/said" || { cat "$room/said"; exit 1; }
     archive=$(sed -n '1s/ .*//p' "$room/said")
@@ -44,8 +24,9 @@ for name in "${targets[@]}"; do
         echo "targets, $target: the shipped archive's object, which is tried as that"
         continue
     fi
-    caller "$target" "$folder" || { echo "targets, $target: no program"; exit 1; }
-    mapfile -t words < <(emulator "$target"; echo "$room/caller")
+    tests/c.sh "${TARGETS_HEADER:-$folder/styrmflo.h}" --target="$target" -fno-pic -O2 -c tests/shipped/caller.c -o "$room/caller.o"
+    command=$(tests/bare.sh "$target" "$room/caller" "$room/caller.o" "$archive") || { echo "targets, $target: no program"; exit 1; }
+    mapfile -t words <<<"$command"
     with=${words[0]##*/}
     [ "${#words[@]}" -gt 1 ] || with=
     status=0
@@ -56,6 +37,6 @@ for name in "${targets[@]}"; do
         continue
     fi
     [ "$status" = 0 ] || { echo "targets, $target: ended with $status"; exit 1; }
-    READER_SHIPPED=$(printf '%s\n' "${words[@]}") tests/target/release/shipped_comparison "${TARGETS_CASES:-2000}" 300001 >"$room/compared" || { cat "$room/compared"; exit 1; }
+    READER_SHIPPED=$command tests/target/release/shipped_comparison "${TARGETS_CASES:-2000}" 300001 >"$room/compared" || { cat "$room/compared"; exit 1; }
     echo "targets, $target${with:+, by $with}: run, and the same: ${TARGETS_CASES:-2000} random cases"
 done

@@ -1,4 +1,4 @@
-/* The board's part of examples/firmware/fitted.c, where there is no C library: bytes go to standard output by a system call (tests/shipped/bare.c). */
+/* The board's part of examples/firmware/fitted.c, where there is no C library: bytes go to standard output as tests/shipped/bare.c has it. */
 #include <stdint.h>
 
 long write(int file, const void *from, unsigned long size);
