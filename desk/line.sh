@@ -10,6 +10,9 @@ od -An -v -tu1 -- "$2" | awk -v form="$1" -v at="$3" '
         if (++bytes <= 3) start[bytes] = byte
         if (line == at) { there = 1; if (byte == 10) ended = 1; else b[++n] = byte; if (byte == 0) zeros++ }
         else if (line < at && (line == head + 1 || line == head + 2) && byte >= 48 && byte <= 57) count[line - head] = count[line - head] (byte - 48)
+        # where a console input lacks a line, its listing (r, as in rules=) begins too early
+        if (fresh && !early && line < at && line <= head && byte == 114) early = line
+        fresh = byte == 10
         if (byte == 10) line++
     }
     function say(text) {
@@ -109,7 +112,8 @@ od -An -v -tu1 -- "$2" | awk -v form="$1" -v at="$3" '
         if (form == "listing" && found == "mode=" && said) return
         if (tolower(found) == key) { say("the key is " key ", in lower case"); return }
         say(shown(1, n) " stands there; wanted here: " which shape)
-        if (form == "console" && key == "mode=" && found == "rules=") say("a listing alone: before it a console input has mode=, budget= and message=; ./check takes a listing")
+        if (early) say("the listing begins in line " early " already: of mode=, budget= and message= before it one is missing")
+        else if (form == "console" && key == "mode=" && found == "rules=") say("a listing alone: before it a console input has mode=, budget= and message=; ./check takes a listing")
         else if (form == "listing" && key == "rules=" && (found == "budget=" || found == "message=")) say("a listing begins with rules=, a console input with mode=")
         else if (numbers && found ~ /^(rule|node)=$/) say(counts() ": is that so?")
     }
@@ -158,7 +162,7 @@ od -An -v -tu1 -- "$2" | awk -v form="$1" -v at="$3" '
         else look_at_decimal(i)
     }
 
-    BEGIN { line = 1; head = form == "console" ? 3 : 0 }
+    BEGIN { line = 1; fresh = 1; head = form == "console" ? 3 : 0 }
     { for (i = 1; i <= NF; i++) take($i) }
     END {
         rules = count[1] + 0; nodes = count[2] + 0

@@ -8,6 +8,14 @@ stop() { # TEXT
     exit 2
 }
 
+# More words than a file, or one that begins like an option: a file of such a name is ./-NAME.
+usage() { # WHAT WORDS..
+    local what=$1
+    shift
+    [ $# -le 1 ] || stop "usage: ./$command [FILE] ($what; without it, or with -, standard input)"
+    case ${1:-} in -?*) stop "usage: ./$command [FILE] ($what; without it, or with -, standard input)" ;; esac
+}
+
 # A stream that is closed is told, or, where nobody asks for it, opened: else the next file that is opened would stand in its place.
 streams() { # INPUT
     # (where standard error is closed, bash has opened the script there)

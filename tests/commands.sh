@@ -47,11 +47,36 @@ says_one_line() { # NAME TEXT: that, and nothing else, and nothing on standard o
     [ ! -s "$room/out" ] || wrong "$1" 'something is on standard output'
 }
 
+says_only() { # NAME TEXT: that, in one line, and nothing else on standard error
+    says "$1" "$2"
+    [ "$(wc -l <"$room/err")" = 1 ] || wrong "$1" 'standard error is not one line'
+}
+
 says_nothing() { # NAME
     [ ! -s "$room/err" ] || wrong "$1" 'something is on standard error'
 }
 
-# ./run's status is 0 for DONE alone, and standard output is the stored answer; hints come with LINE and with nothing else.
+# The line and the kind of the node at which a run ended, or where else to ask; nothing for DONE and NOMATCH.
+says_the_place() { # NAME INPUT NUMBER
+    local place line kind
+    case $3 in
+    0 | 8) says_nothing "$1" ;;
+    2 | 3 | 4 | 5) says_only "$1" './check says where' ;;
+    *)
+        place=$(sed -n 's/^place=//p' "${2%.console}.answer")
+        line=$(($(sed -n 's/^rules=//p' "$2") + 7 + place))
+        kind=$(sed -n "${line}s/^node=\\([0-9]*\\) .*/\\1/p" "$2")
+        says_only "$1" "node $place (line $line), $(kind_name "$kind"), in rule "
+        ;;
+    esac
+}
+
+kind_name() { # KIND
+    local names=(- empty terminal sequence choice repeat not call bind update constraint - - - - - Bool Integer Text slot add subtract multiply divide equal greater and or not)
+    echo "${names[$1]}"
+}
+
+# ./run's status is 0 for DONE alone, and standard output is the stored answer; beside it the place of a run's end is told in words.
 answers() {
     local input name number status
     for input in examples/*/*.console tests/console/{done,budget-0,deep,fault,field,nomatch,start,stuck,type,use}-display*.console; do
@@ -60,8 +85,9 @@ answers() {
         status=$((number == 0 ? 0 : 1))
         try "$name" "$status" "./run $input"
         prints "$name" "${input%.console}.answer"
-        says_nothing "$name"
+        says_the_place "$name" "$input" "$number"
     done
+    rules_of_places
     try 'standard input' 0 "./run <$sample.console"
     prints 'standard input' "$sample.answer"
     try 'standard input, as -' 0 "./run - <$sample.console"
@@ -74,6 +100,40 @@ answers() {
     prints 'a closed standard error' "$sample.answer"
     try 'an endless input' 1 './run /dev/zero'
     prints_line 'an endless input' 'answer=23'
+    says_only 'an endless input' 'at most 65536 bytes'
+    for command in run check; do
+        ln -s "$top/$command" "$room/$command-by-a-link"
+        try "$command, by a link" 0 "'$room/$command-by-a-link' $sample.console"
+    done
+}
+
+# Nodes of rule 0, and of others through parts, operands, arguments and returned nodes.
+rules_of_places() {
+    place_told examples/floor-direction-name/small-budget 'node 54 (line 65), sequence, in rule 2: no visit was left'
+    place_told examples/basement/too-large 'node 48 (line 58), multiply, in rule 1: 32-bit overflow'
+    place_told examples/recursion/too-deep 'in rule 1: a visit of it was due at depth 257'
+    place_told tests/console/stuck-bench 'in rule 0: it reads an unset slot'
+    # an operand of an argument of a call
+    sed -e 's/^/node=/' >"$room/nodes" <<'END'
+17 0 1 0 0 0 0 0 0 0
+17 0 0 0 0 0 0 0 0 0
+23 0 1 0 0 0 0 0 0 0
+7 1 2 0 0 0 0 0 0 0
+19 0 0 0 0 0 0 0 0 0
+1 0 0 0 0 0 0 0 0 0
+END
+    made_of() { # RULE-1
+        printf 'mode=bench\nbudget=9\nmessage=\nrules=2\nnodes=6\nliterals=\nrule=3 0 0 0 0 0 0 0 0 0 0 0 0 0 0\nrule=%s\n' "$1"
+        cat "$room/nodes"
+    }
+    made_of '5 1 2 0 0 0 1 4 0 0 0 2 0 0 0' >"$room/made.console"
+    try 'a fault in an argument' 1 "./run $room/made.console"
+    says_only 'a fault in an argument' 'node 2 (line 11), divide, in rule 0: 32-bit overflow, or a divisor of zero'
+}
+
+place_told() { # NAME TEXT
+    try "the place, $1" 1 "./run $1.console"
+    says_only "the place, $1" "$2"
 }
 
 # What can't be read: one line, and 2. Both commands.
@@ -102,7 +162,9 @@ unreadable() {
         try "$command, standard input is only written" 2 "./$command 0>'$room/only-written'"
         says_one_line "$command, standard input is only written" "$command: standard input cannot be read"
         try "$command, two words" 2 "./$command $sample.console $sample.console"
-        says_one_line "$command, two words" "$command: usage: ./$command ["
+        says_one_line "$command, two words" "$command: usage: ./$command [FILE]"
+        try "$command, an option" 2 "./$command --help"
+        says_one_line "$command, an option" "$command: usage: ./$command [FILE]"
         try "$command, no room" 2 "TMPDIR=/no/such-folder ./$command $sample.console"
         says_one_line "$command, no room" "$command: there is no room for temporary files in /no/such-folder"
         try "$command, an error that nobody hears" 2 "./$command no/such-file 2>&-"
@@ -270,7 +332,7 @@ verdicts() {
 
 rule_fields() {
     judged $whole '4s/=8 /=3 /' '2 FIELD, place 3' 'word 3 is the body of rule 0, line 4 of the file, the 1st number there: 3 stands there' \
-        'a parsing node was wanted, and node 3 is an expression (kind 19, slot)'
+        'a parsing node was wanted, and node 3 is an expression (kind 19, slot)' 'was a line put in or taken out?'
     judged $whole '4s/=8 /=99 /' '2 FIELD, place 3' 'there is no node 99 (the table has 20 nodes)'
     judged $whole '14s/=3/=29/' '2 FIELD, place 3' 'node 8 has kind 29, which there is not'
     judged $whole '4s/=8 0/=8 5/' '2 FIELD, place 4' 'n, how many are inherited, of rule 0' '0 to 4 was wanted'
@@ -305,31 +367,31 @@ node_fields() {
 }
 
 uses() {
-    judged $whole '14s/5 7/5 6/' '3 USE, place 6' 'node 6 (line 12), terminal: it is used 2 times' 'field b of node 7 (line 13), bind; field b of node 8 (line 14), sequence'
+    judged $whole '14s/5 7/5 6/' '3 USE, place 6' 'node 6 (line 12), terminal: it is used 2 times' 'the 3rd number of node 7 (line 13), bind; the 3rd number of node 8 (line 14), sequence' 'node 7 (line 13), bind: nobody uses it'
     judged $whole '5s/ 2 18 19 0 0 1 3/ 1 18 0 0 0 1 0/; 8s/2 3 0 0$/2 0 0 0/' '3 USE, place 19' 'node 19 (line 25), slot: nobody uses it'
     judged $whole '5s/18 19/18 9/' '3 USE, place 9' 'returned node 1 of rule 0 (line 4); returned node 2 of rule 1 (line 5)'
     judged $whole '5s/=17 /=8 /' '3 USE, place 8' 'the body of rule 0 (line 4); the body of rule 1 (line 5)'
-    judged $whole '8s/=7 1 0 1/=7 1 0 0/' '3 USE, place 0' 'field b of node 2 (line 8), call; field c of node 2 (line 8), call'
+    judged $whole '8s/=7 1 0 1/=7 1 0 0/' '3 USE, place 0' 'the 3rd number of node 2 (line 8), call; the 4th number of node 2 (line 8), call'
     judged $whole '4s/=8 0 0/=8 1 2/' '4 START, place 0' 'rule 0 (line 4), the start, inherits 1'
 }
 
 types() {
-    judged $whole '15s/19 0/19 5/' '5 TYPE, place 0' 'rule 0 (line 4): node 9 (line 15), slot: slot 5 has no type here (after the body, for returned node 1)'
-    judged $whole '9s/19 2/19 6/' '5 TYPE, place 0' 'rule 0 (line 4): node 3 (line 9), slot: slot 6 has no type here'
+    judged $whole '15s/19 0/19 5/' '5 TYPE, place 0' 'rule 0 (line 4): node 9 (line 15), slot: slot 5 is unset here (after the body, for returned node 1)'
+    judged $whole '9s/19 2/19 6/' '5 TYPE, place 0' 'rule 0 (line 4): node 3 (line 9), slot: slot 6 is unset here'
     judged $whole '9s/19 2/17 0/' '5 TYPE, place 0' 'node 4 (line 10), constraint: its expression is Integer, Bool was wanted'
     judged $whole '13s/8 0 6/8 2 6/' '5 TYPE, place 0' 'node 7 (line 13), bind of slot 2: it is Bool after its part, and gets Text'
     judged $whole '6s/17 0 5/16 0 0/' '5 TYPE, place 0' 'node 2 (line 8), call of rule 1: argument 1 is Bool, rule 1 inherits Integer there'
     judged $whole '8s/2 3 0 0$/2 2 0 0/' '5 TYPE, place 0' 'receiving slot 2, slot 2, is Bool, rule 1 returns Text there'
     judged $whole '17s/9 4 10/9 1 10/' '5 TYPE, place 1' 'rule 1 (line 5): node 11 (line 17), update of slot 1: it is Text already, and gets Bool'
-    judged $whole '20s/6 13 0/8 5 13/' '5 TYPE, place 1' 'node 16 (line 22), choice: the first part leaves slot 5 Text, the second leaves it unset'
-    judged $whole '19s/5 12 0/8 5 12/' '5 TYPE, place 1' 'node 14 (line 20), not: slot 5 is unset before its part and Text after it'
-    judged $whole '19s/5 12 0/8 5 12/; 20s/6 13/5 13/' '5 TYPE, place 1' 'node 14 (line 20), repeat: slot 5 is unset before its part and Text after it'
+    judged $whole '20s/6 13 0/8 5 13/' '5 TYPE, place 1' 'node 16 (line 22), choice: the first arm leaves slot 5 Text, the second leaves it unset'
+    judged $whole '19s/5 12 0/8 5 12/' '5 TYPE, place 1' 'node 14 (line 20), not: slot 5 is unset before its part and Text after it: set it before'
+    judged $whole '19s/5 12 0/8 5 12/; 20s/6 13/5 13/' '5 TYPE, place 1' 'node 14 (line 20), repeat: slot 5 is unset before its part and Text after it: set it before'
     judged $whole '4s/3 0 0 0$/2 0 0 0/' '5 TYPE, place 0' 'node 9 (line 15), slot: returned node 1 is Text, the rule declares Integer'
 }
 
 # Of several nodes that fail the smallest is told; but what would start from the slots that a failing part has not left is not judged.
 smallest() {
-    judged $whole '6s/17 0 5/19 7 0/; 7s/18 1 2/19 8 0/' '5 TYPE, place 0' 'node 0 (line 6), slot: slot 7 has no type here'
+    judged $whole '6s/17 0 5/19 7 0/; 7s/18 1 2/19 8 0/' '5 TYPE, place 0' 'node 0 (line 6), slot: slot 7 is unset here'
     judged $order '6s/16 1/17 1/; 8s/16 1/17 1/' '5 TYPE, place 0' 'node 4 (line 9), constraint'
     judged $order '6s/16 1/17 1/; 8s/16 1/17 1/; 10s/=3/=4/' '5 TYPE, place 0' 'node 2 (line 7), constraint'
     judged $order '8s/16 1/17 1/; 5s/16 0/19 5/' '5 TYPE, place 0' 'node 4 (line 9), constraint'
@@ -351,6 +413,7 @@ in_console_input() {
     { printf '%s\n' mode=bench budget=-1 message=ABC && cat $whole; } >"$room/whole.console"
     try 'a console input, its first lines wrong' 0 "./check '$room/whole.console'"
     prints_line 'a console input, its first lines wrong' passed
+    judged "$room/whole.console" '2d' '20 LINE, place 4' 'line 4: "nodes=20" stands there; wanted here: rules=' 'the listing begins in line 3 already: of mode=, budget= and message= before it one is missing'
     judged "$room/whole.console" '15s/71/256/' '2 FIELD, place 94' 'line 15 of the file'
     judged "$room/whole.console" '18s/19 0/19 5/' '5 TYPE, place 0' 'rule 0 (line 7): node 9 (line 18)'
 }

@@ -24,11 +24,34 @@ pub fn advice(page: &Page, word: usize) -> Option<String> {
         let what = node_word(table, node, column);
         (what, page.node_line(node), column, wanted)
     };
+    let moved = if names_a_node(table, word) { MOVED } else { "" };
     Some(format!(
-        "word {word} is {what}, line {line} of the file, the {} number there: {} stands there; {wanted}",
+        "word {word} is {what}, line {line} of the file, the {} number there: {} stands there; {wanted}{moved}",
         ordinal(column + 1),
         table.words[word],
     ))
+}
+
+/// A line that was put in or taken out shows first where its neighbours are named,
+/// which may be far from it.
+const MOVED: &str =
+    "\n(was a line put in or taken out? then the nodes behind it have other numbers, in every line that names them)";
+
+/// Whether a number of a node stands there.
+fn names_a_node(table: &Table, word: usize) -> bool {
+    let first_node = table.node_place(0);
+    if word < first_node {
+        return matches!((word - 3) % RULE_WORDS, 0 | 7..=10);
+    }
+    let (node, column) = (
+        (word - first_node) / NODE_WORDS,
+        (word - first_node) % NODE_WORDS,
+    );
+    column > 0
+        && matches!(
+            wants(table.kind(node))[column - 1],
+            Want::Part(_) | Want::Argument(_)
+        )
 }
 
 fn rule_word(column: usize) -> String {

@@ -6,7 +6,7 @@
 //! - A judgement that fails leaves no slots to go on with. So in a sequence the
 //!   second part is not judged after a first that fails, a bind is not judged
 //!   after its part fails, and the returned nodes are not after the body.
-//! - What starts from the same slots is all judged: both parts of a choice, both
+//! - What starts from the same slots is all judged: both arms of a choice, both
 //!   operands, all arguments of a call, all returned nodes.
 //! - Arguments of other types than the callee's, and a receiving slot of another
 //!   type, are the call's own; a returned node of another type than declared is
@@ -140,7 +140,7 @@ impl Judge<'_> {
         let second = self.leaves(self.table.part(node, 1), slots);
         let (first, second) = (first?, second?);
         let says = differences(&first, &second, |slot, one, other| {
-            format!("the first part leaves slot {slot} {one}, the second leaves it {other}")
+            format!("the first arm leaves slot {slot} {one}, the second leaves it {other}")
         });
         match says {
             None => Some(first),
@@ -151,7 +151,8 @@ impl Judge<'_> {
     fn unchanged(&mut self, node: usize, slots: &Slots) -> Option<Slots> {
         let after = self.leaves(self.table.part(node, 0), slots)?;
         let says = differences(slots, &after, |slot, one, other| {
-            format!("slot {slot} is {one} before its part and {other} after it")
+            let set = if one == type_name(0) { ": set it before" } else { "" };
+            format!("slot {slot} is {one} before its part and {other} after it{set}")
         });
         match says {
             None => Some(after),
@@ -201,7 +202,7 @@ impl Judge<'_> {
             SLOT => match slots[table.part(node, 0)] {
                 0 => self.fail(
                     node,
-                    format!("slot {} has no type here", table.part(node, 0)),
+                    format!("slot {} is unset here", table.part(node, 0)),
                 ),
                 held => Some(held),
             },

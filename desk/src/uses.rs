@@ -1,19 +1,37 @@
 //! USE in words: who uses the node.
 
+use super::names::ordinal;
 use super::page::Page;
 use reader_tests::reference::table::{wants, Want};
 
-/// Nothing where the node is used exactly once. The fields of the table are
-/// right, since FIELD comes before USE.
+/// How many other nodes are told beside the verdict's.
+const MOST: usize = 8;
+
+/// Nothing where the node is used exactly once. A wrong part number makes two
+/// nodes wrong, one without a user and one with two, so the others follow. The
+/// fields of the table are right, since FIELD comes before USE.
 pub fn advice(page: &Page, node: usize) -> Option<String> {
     if node >= page.table.nodes() {
         return None;
     }
+    let first = misuse(page, node)?;
+    let others = (0..page.table.nodes()).filter(|&other| other != node);
+    let others: Vec<String> = others.filter_map(|other| misuse(page, other)).collect();
+    let mut lines = vec![first];
+    lines.extend(others.iter().take(MOST).cloned());
+    if others.len() > MOST {
+        lines.push(format!("and {} nodes more", others.len() - MOST));
+    }
+    Some(lines.join("\n"))
+}
+
+/// What is wrong with the uses of a node, if anything is.
+fn misuse(page: &Page, node: usize) -> Option<String> {
     let users = users(page, node);
     let what = page.node(node);
     match users.len() {
         0 => Some(format!(
-            "{what}: nobody uses it; each node is a part, an argument, a body or a returned node, exactly once"
+            "{what}: nobody uses it; each node is a part, an operand, an argument, a body or a returned node, exactly once"
         )),
         1 => None,
         count => Some(format!(
@@ -45,8 +63,8 @@ fn users(page: &Page, node: usize) -> Vec<String> {
         let wants = wants(table.kind(user));
         for (field, &want) in wants.iter().enumerate() {
             if table.part(user, field) == node && names_a_node(page, user, want) {
-                let letter = char::from(b'a' + field as u8);
-                users.push(format!("field {letter} of {}", page.node(user)));
+                let number = ordinal(field + 2);
+                users.push(format!("the {number} number of {}", page.node(user)));
             }
         }
     }

@@ -26,6 +26,15 @@ change run 's/^answer=20\).*/answer=8) echo no match >\&2 ;;/'
 fails 'a hint where no line is wrong' 'something is on standard error' tests/commands.sh answers
 fails 'no hint' 'an unknown mode: the hint is not one or two lines of line 1' tests/commands.sh head_hints
 fresh
+change desk/place.sh 's/line\[node\] = NR$/line[node] = NR - 1/'
+fails 'the place, a line before' 'standard error does not say: node ' tests/commands.sh answers
+fresh
+change desk/place.sh 's/top in user; top = user\[top\]/0/'
+fails 'the place, of no rule' 'standard error does not say: node 54 (line 65), sequence, in rule 2' tests/commands.sh answers
+fresh
+change run 's/readlink -f "\$0"/echo "$0"/'
+fails 'a command that knows no link' 'run, by a link: ' tests/commands.sh answers
+fresh
 change desk/streams.sh '/\$1. is a directory/d'
 fails 'a directory that is not told' "does not say: run: 'examples' is a directory" tests/commands.sh unreadable
 fresh

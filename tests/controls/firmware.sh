@@ -44,7 +44,7 @@ fresh
 rm tests/console/*.console
 fails 'firmware, few inputs' 'inputs' tests/firmware.sh console
 fresh
-rm tests/console/deep-display.*
+rm tests/console/deep-display.* examples/recursion/too-deep.*
 fails 'firmware, a number that is never reached' 'answer 10 is never reached' tests/firmware.sh console use
 
 changed 'no look at the version' 'C and Rust differ' use "$c" 's/styrmflo_version\(\) != STYRMFLO_VERSION/0/'
