@@ -191,7 +191,7 @@ path_with() { # COMMAND..
     local tool
     rm -rf "$room/path"
     mkdir "$room/path"
-    for tool in awk bash cat cut dirname env find grep head mkdir mktemp od rm sed tail touch tr uname wc "$@"; do ln -s "$(type -P "$tool")" "$room/path/$tool"; done
+    for tool in awk bash cat cut dirname env find grep head mkdir mktemp od readlink rm sed tail touch tr uname wc "$@"; do ln -s "$(type -P "$tool")" "$room/path/$tool"; done
 }
 
 unready() {

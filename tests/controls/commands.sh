@@ -29,7 +29,7 @@ fresh
 change desk/place.sh 's/line\[node\] = NR$/line[node] = NR - 1/'
 fails 'the place, a line before' 'standard error does not say: node ' tests/commands.sh answers
 fresh
-change desk/place.sh 's/top in user; top = user\[top\]/0/'
+change desk/place.sh 's/for \(top = at;.*continue/top = at/'
 fails 'the place, of no rule' 'standard error does not say: node 54 (line 65), sequence, in rule 2' tests/commands.sh answers
 fresh
 change run 's/readlink -f "\$0"/echo "$0"/'
