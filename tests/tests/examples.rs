@@ -32,10 +32,9 @@ fn answered(folder: &Path) -> usize {
 #[test]
 fn the_reference_answers_the_examples_as_is_stored() {
     let examples = Path::new(env!("CARGO_MANIFEST_DIR")).join("../examples");
-    let folders: Vec<_> = entries(&examples)
-        .into_iter()
-        .filter(|path| path.is_dir())
-        .collect();
+    // firmware/ has programs, which tests/firmware.sh tries
+    let has_inputs = |path: &PathBuf| path.is_dir() && !path.ends_with("firmware");
+    let folders: Vec<_> = entries(&examples).into_iter().filter(has_inputs).collect();
     assert!(!folders.is_empty());
     for folder in folders {
         assert!(answered(&folder) > 0, "{}: no input", folder.display());
