@@ -96,3 +96,8 @@ fn goes_of_a_sample(job: &mut dyn FnMut(&dyn Subject), contender: &dyn Subject) 
     }
     goes
 }
+
+/// Of one job alone: the least of as many rounds.
+pub fn least_time(job: &mut dyn FnMut()) -> f64 {
+    least_times(&mut |_| job(), [&Library])[0]
+}

@@ -3,6 +3,7 @@
 #![forbid(unsafe_code)]
 
 pub mod agreement;
+pub mod bound;
 pub mod contenders;
 pub mod entangled;
 pub mod fast;
