@@ -1,5 +1,5 @@
 //! The calls that bench/bound counts. Arguments: a function (`Check`, `TypeCheck`, `Bench`, `Display`) and how many random cases beside those that are made for a part: each case
-//! of that function is called once and told in a line. Or `times`: the least time of each of the latter, of all functions, in nanoseconds.
+//! of that function is called once and told in a line. Or `times`: of all the latter the function and the least time in nanoseconds, or - where none is taken.
 
 use reader_bench::bound::count::Counted;
 use reader_bench::bound::{made_for_a_part, strays, Call, Case};
@@ -17,10 +17,7 @@ fn main() {
     cases.extend((1..=asked(1, 0)).map(strays::case));
     for case in &mut cases {
         if what == "times" {
-            let time = least_time(&mut || {
-                black_box(case.make());
-            });
-            println!("{}\t{time:.2}", call_of(case));
+            println!("{}\t{}", call_of(case), time_of(case));
         } else if what == call_of(case) {
             let answer = case.make();
             println!("{}", told(case, answer));
@@ -28,11 +25,26 @@ fn main() {
     }
 }
 
+/// Of the many chains of expressions just the long ones, and of the nests those that begin at the start.
+fn time_of(case: &mut Case) -> String {
+    let timed = match case.group {
+        "expression" => (100..=400).contains(&case.size),
+        group => group != "deep nest",
+    };
+    if !timed {
+        return "-".to_string();
+    }
+    let time = least_time(&mut || {
+        black_box(case.make());
+    });
+    format!("{time:.2}")
+}
+
 fn call_of(case: &Case) -> String {
     format!("{:?}", case.call)
 }
 
-/// Group, name, size, call, R, K, L, message, budget, number, visits; visits of each parsing kind from 1 on; of each parsing node kind and load; the load of the start rule.
+/// Group, name, size, call, R, K, record words, message, budget, number, visits; visits of each parsing kind from 1 on; of each parsing node kind and load; the load of the start rule.
 fn told(case: &Case, (number, _, visits): (u32, u32, u32)) -> String {
     let work = &case.work;
     let head = |place: usize| work.words.get(place).copied().unwrap_or(0).to_string();
@@ -48,7 +60,7 @@ fn told(case: &Case, (number, _, visits): (u32, u32, u32)) -> String {
         call_of(case),
         head(0),
         head(1),
-        head(2),
+        work.words.len().saturating_sub(3).to_string(),
         work.message.len().to_string(),
         case.budget.to_string(),
         number.to_string(),

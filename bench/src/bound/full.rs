@@ -78,8 +78,13 @@ fn not(draft: &mut Draft, part: u16) -> u16 {
     draft.node(NOT, &[part])
 }
 
+fn call_none(draft: &mut Draft) -> u16 {
+    draft.node(CALL, &[])
+}
+
 /// Name, unit, nodes that it takes, the type of a call's values.
-const UNITS: [(&str, Unit, usize, u16); 11] = [
+const UNITS: [(&str, Unit, usize, u16); 12] = [
+    ("calls of no values", call_none, 1, INTEGER_TYPE),
     ("empty nodes", empty, 1, INTEGER_TYPE),
     ("terminals", terminal, 1, INTEGER_TYPE),
     ("choices", choice, 3, INTEGER_TYPE),
@@ -106,8 +111,34 @@ fn other_rules(draft: &mut Draft, rules: usize, given: u16) {
     }
 }
 
-/// Units one after the other, as many as there is room for: the chain goes down to the right or to the left.
-fn wide(unit: Unit, takes: usize, given: u16, rules: usize, left: bool) -> Draft {
+/// How units are joined: by sequences or choices, down to the left or to the right.
+#[derive(Clone, Copy)]
+struct Joint {
+    name: &'static str,
+    kind: u16,
+    left: bool,
+}
+
+const JOINTS: [Joint; 3] = [
+    Joint {
+        name: "in sequences to the right",
+        kind: SEQUENCE,
+        left: false,
+    },
+    Joint {
+        name: "in sequences to the left",
+        kind: SEQUENCE,
+        left: true,
+    },
+    Joint {
+        name: "in choices",
+        kind: CHOICE,
+        left: false,
+    },
+];
+
+/// As many units as there is room for.
+fn wide(unit: Unit, takes: usize, given: u16, rules: usize, joint: Joint) -> Draft {
     let mut draft = Draft::default();
     draft.rule(0, &[], &[]);
     other_rules(&mut draft, rules, given);
@@ -117,13 +148,17 @@ fn wide(unit: Unit, takes: usize, given: u16, rules: usize, left: bool) -> Draft
         units.push(unit(&mut draft));
         room -= takes + 1;
     }
-    if !left {
+    if !joint.left {
         units.reverse();
     }
     let mut body = units[0];
     for &unit in &units[1..] {
-        let parts = if left { [body, unit] } else { [unit, body] };
-        body = draft.node(SEQUENCE, &parts);
+        let parts = if joint.left {
+            [body, unit]
+        } else {
+            [unit, body]
+        };
+        body = draft.node(joint.kind, &parts);
     }
     draft.rules[0][0] = body;
     draft
@@ -144,44 +179,60 @@ fn nest(kind: u16) -> Draft {
     draft
 }
 
-/// Four leaves of a kind; slots from `first` on.
-fn four(draft: &mut Draft, kind: u16, first: u16) -> [u16; 4] {
-    [0, 1, 2, 3].map(|index| draft.node(kind, &[if kind == SLOT { first + index } else { 0 }]))
+/// Leaves of a kind; slots from `first` on.
+fn some(draft: &mut Draft, count: usize, kind: u16, first: u16) -> Vec<u16> {
+    let fields = (first..).map(|slot| if kind == SLOT { slot } else { 0 });
+    let leaves = fields.take(count).map(|field| draft.node(kind, &[field]));
+    leaves.collect()
 }
 
-/// What stands in the body of each rule: nothing, or a call of the next.
-#[derive(Clone, Copy, PartialEq, Eq)]
+/// What stands in the body of each rule.
+#[derive(Clone, Copy)]
 enum Body {
-    Empty,
-    /// Its arguments are the rule's own, where it has some.
+    Plain(Unit),
+    /// A call of the next with the rule's own values, where it has some.
     Hands,
-    /// Its arguments are leaves of the kind, and so is what is returned.
+    /// A call of the next with leaves of the kind; and such are returned.
     Makes,
 }
 
-/// Rules that inherit four values and return four.
-fn many_rules(kind: u16, given: u16, body: Body) -> Draft {
+/// How many values each rule inherits and returns, and the leaf that makes one.
+#[derive(Clone, Copy)]
+struct Values {
+    inherited: usize,
+    returned: usize,
+    kind: u16,
+    given: u16,
+}
+
+fn call_next(draft: &mut Draft, rule: usize, own: u16, values: Values) -> u16 {
+    let mut fields = [0; 9];
+    fields[0] = 1 + rule as u16 % (MOST_RULES as u16 - 1);
+    let arguments = some(draft, values.inherited, own, 0);
+    fields[1..1 + arguments.len()].copy_from_slice(&arguments);
+    for (field, slot) in fields[5..5 + values.returned].iter_mut().zip(8..) {
+        *field = slot;
+    }
+    draft.node(CALL, &fields)
+}
+
+/// As many rules as there can be.
+fn many_rules(values: Values, body: Body) -> Draft {
     let mut draft = Draft::default();
     for rule in 0..MOST_RULES {
-        let own = if rule == 0 || body == Body::Makes {
-            kind
-        } else {
-            SLOT
-        };
-        let node = if body == Body::Empty {
-            empty(&mut draft)
-        } else {
-            let [a, b, c, d] = four(&mut draft, own, 0);
-            let next = 1 + rule as u16 % (MOST_RULES as u16 - 1);
-            draft.node(CALL, &[next, a, b, c, d, 8, 9, 10, 11])
+        let none = rule == 0 || matches!(body, Body::Makes) || values.inherited == 0;
+        let own = if none { values.kind } else { SLOT };
+        let node = match body {
+            Body::Plain(unit) => unit(&mut draft),
+            _ => call_next(&mut draft, rule, own, values),
         };
         let back = match body {
-            Body::Hands => four(&mut draft, SLOT, 8),
-            _ => four(&mut draft, own, 0),
+            Body::Hands => some(&mut draft, values.returned, SLOT, 8),
+            _ => some(&mut draft, values.returned, own, 0),
         };
-        let inherited = if rule == 0 { 0 } else { 4 };
-        let returned = back.map(|node| (node, given));
-        draft.rule(node, &[given; 4][..inherited], &returned);
+        let returned: Vec<_> = back.into_iter().map(|node| (node, values.given)).collect();
+        let inherited = if rule == 0 { 0 } else { values.inherited };
+        draft.rule(node, &[values.given; 4][..inherited], &returned);
     }
     draft
 }
@@ -197,10 +248,12 @@ fn expressions(kind: u16, leaf: &Leaf, right: bool) -> Work {
 
 fn wide_tables(tables: &mut Vec<(String, Work)>) {
     for (name, unit, takes, given) in UNITS {
-        for (rules, left) in [(2, false), (2, true), (MOST_RULES, false)] {
-            let way = if left { "left" } else { "right" };
-            let draft = wide(unit, takes, given, rules, left);
-            tables.push((format!("{name}, to the {way}"), work(draft, Vec::new())));
+        for joint in JOINTS {
+            for rules in [2, MOST_RULES] {
+                let draft = wide(unit, takes, given, rules, joint);
+                let name = format!("{name} {}", joint.name);
+                tables.push((name, work(draft, Vec::new())));
+            }
         }
     }
 }
@@ -222,34 +275,58 @@ fn deep_tables(tables: &mut Vec<(String, Work)>) {
 }
 
 fn tables_of_rules(tables: &mut Vec<(String, Work)>) {
-    for (leaf, kind, given) in [
-        ("Integers", INTEGER, INTEGER_TYPE),
-        ("Texts", TEXT, TEXT_TYPE),
-    ] {
-        for (way, body) in [
-            ("", Body::Empty),
-            (", each hands its own to the next", Body::Hands),
-            (", each calls the next with others", Body::Makes),
-        ] {
-            let name = format!("rules of 4 + 4 {leaf}{way}");
-            let draft = many_rules(kind, given, body);
-            tables.push((name, work(draft, Vec::new())));
+    let bodies = [
+        ("an empty body", Body::Plain(empty)),
+        ("a bind", Body::Plain(bind)),
+        ("an update", Body::Plain(update_text)),
+        ("a constraint", Body::Plain(constraint)),
+        ("a call that hands on", Body::Hands),
+        ("a call", Body::Makes),
+    ];
+    for (kind, given) in [(INTEGER, INTEGER_TYPE), (TEXT, TEXT_TYPE)] {
+        for (inherited, returned) in [(0, 0), (0, 4), (4, 0), (4, 4)] {
+            let values = Values {
+                inherited,
+                returned,
+                kind,
+                given,
+            };
+            for (what, body) in bodies {
+                let name = format!("rules of {what}, {}", told(values));
+                tables.push((name, work(many_rules(values, body), Vec::new())));
+            }
         }
     }
 }
 
+fn told(values: Values) -> String {
+    let kind = if values.kind == TEXT {
+        "Texts"
+    } else {
+        "Integers"
+    };
+    format!("{} + {} {kind}", values.inherited, values.returned)
+}
+
+const FULL: Values = Values {
+    inherited: 4,
+    returned: 4,
+    kind: TEXT,
+    given: TEXT_TYPE,
+};
+
 /// The last word, the last node and the last rule that can be wrong.
 fn failing() -> Vec<(&'static str, Work)> {
-    let sound = || wide(call_integers, 5, INTEGER_TYPE, MOST_RULES, false);
+    let sound = || wide(call_integers, 5, INTEGER_TYPE, MOST_RULES, JOINTS[0]);
     let mut field = work(sound(), Vec::new());
     *field.words.last_mut().expect("a word") = 1;
     let mut unused = sound();
     unused.node(EMPTY, &[]);
-    let mut start = many_rules(TEXT, TEXT_TYPE, Body::Hands);
+    let mut start = many_rules(FULL, Body::Hands);
     start.rules[0][1] = 1;
     start.rules[0][2] = TEXT_TYPE;
     // A call of rule 0 would have an argument now, but none calls it.
-    let mut typed = many_rules(TEXT, TEXT_TYPE, Body::Hands);
+    let mut typed = many_rules(FULL, Body::Hands);
     typed.rules[MOST_RULES - 1][14] = BOOL_TYPE;
     vec![
         ("FIELD at the last word", field),

@@ -267,14 +267,14 @@ const ROUNDS: [(&str, Inner); 6] = [
 
 fn rounds(cases: &mut Vec<Case>) {
     for (name, part) in ROUNDS {
-        for count in [10, 210] {
+        for count in [10, 4_010] {
             let mut draft = Draft::default();
             let first = part(&mut draft);
             let part = part(&mut draft);
             let repeat = draft.node(REPEAT, &[part]);
             let body = draft.node(SEQUENCE, &[first, repeat]);
             draft.rule(body, &[], &[]);
-            let made = work(draft, vec![STANDS as u8; 300]);
+            let made = work(draft, vec![STANDS as u8; 5_000]);
             let case = Case::new("round", name, count, Call::Display, made);
             cases.push(case.with_budget(3 + count as u32));
         }

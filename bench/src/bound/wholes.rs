@@ -1,7 +1,9 @@
 //! Whole calls: the clearing, the dearest single visit, the example, and refusals.
 
 use super::{work, Call, Case};
-use crate::grammars::{blocks, example, lift, measured_runs, smallest, Work, LONGEST, MOST_BLOCKS};
+use crate::grammars::{
+    blocks, deep, example, expressions, lift, repeat, smallest, Work, LONGEST, MOST_BLOCKS,
+};
 use reader_tests::exported::WORK_WORDS;
 use reader_tests::random::draft::Draft;
 use reader_tests::reference::table::*;
@@ -88,13 +90,27 @@ fn dearest(cases: &mut Vec<Case>) {
     }
 }
 
+/// The example and runs of bench/run, and the same without a visit.
 fn runs(cases: &mut Vec<Case>) {
-    for (name, made) in [("the example's 16 bytes", example()), ("30 bytes", lift())] {
-        cases.push(Case::new("example", name, 0, Call::Display, made));
-    }
-    for (name, made) in measured_runs().into_iter().skip(1).take(3) {
-        cases.push(Case::new("run", name, 0, Call::Display, made));
-    }
+    let mut both = |group: &'static str, name: &str, make: &dyn Fn() -> Work| {
+        for budget in [u32::MAX, 0] {
+            let case = Case::new(group, name, 0, Call::Display, make());
+            cases.push(case.with_budget(budget));
+        }
+    };
+    both("example", "the example's message of 16 bytes", &example);
+    both("example", "a message of 30 bytes", &lift);
+    both("run", "(b) ('a' 'b' 'c')*, 65,535 bytes", &|| {
+        repeat(LONGEST)
+    });
+    both("run", "(c) calls 255 deep, over and over", &|| {
+        deep(256, 4_200)
+    });
+    both(
+        "run",
+        "(d) constraints of 52 expression nodes",
+        &expressions,
+    );
 }
 
 pub fn cases() -> Vec<Case> {
