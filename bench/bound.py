@@ -24,7 +24,7 @@ class Case:
         self.kinds = dict(zip(KINDS, map(int, told[11].split(",")))) if told[11] else {}
         loads = [tuple(map(int, load.split(":"))) for load in told[12].split(",") if load]
         self.loads = [(KINDS[load[0] - 1], load[1:]) for load in loads]
-        self.start = tuple(map(int, told[13].split(":"))) if told[13] else (0,) * 5
+        self.start = tuple(map(int, told[13].split(":"))) if told[13] else (0,) * 4
         self.time = None
 
     def is_run(self):
@@ -74,10 +74,6 @@ def timed(cases):
 def own(case):
     """Instructions outside memset: what the C library's takes depends on where the cleared memory lies."""
     return case.total - case.memset
-
-
-def memset(case):
-    return case.memset
 
 
 def time(case):
@@ -171,23 +167,23 @@ def evaluations(cases, value):
 def expressions(cases, value):
     """A node of an expression with operators, what one that is deep takes more, a byte that is compared; what a node more takes in each chain; the step to the longer pile."""
     found = evaluations(cases, value)
-    depth = {load[2]: cost for group, _, load, cost in found if group == "depth"}
+    depth = {load[1]: cost for group, _, load, cost in found if group == "depth"}
     levels = sorted(depth)
     # Nots one inside the other: from one to the next a node more, and where the first pile has no more room the longer one too.
     steps = [depth[b] - depth[a] for a, b in zip(levels, levels[1:])]
     deep = steps[1] - steps[0]
-    texts = {load[4]: cost for group, _, load, cost in found if group == "text"}
+    texts = {load[3]: cost for group, _, load, cost in found if group == "text"}
     byte = (texts[2048] - texts[0]) / 2048
     named = defaultdict(dict)
     for group, name, load, cost in found:
         if group == "expression":
-            named[name.rsplit(",", 1)[0]][load[2]] = (cost, load[3])
+            named[name.rsplit(",", 1)[0]][load[1]] = (cost, load[2])
     slopes = {}
     for name, by_nodes in named.items():
         sizes = [nodes for nodes in sorted(by_nodes) if by_nodes[nodes][1]] or sorted(by_nodes)
         if len(sizes) > 1 and sizes[-1] > 100:
             slopes[name] = (by_nodes[sizes[-1]][0] - by_nodes[sizes[-2]][0]) / (sizes[-1] - sizes[-2])
-    node = max((cost - deep * load[3] - byte * load[4]) / load[2] for _, _, load, cost in found)
+    node = max((cost - deep * load[2] - byte * load[3]) / load[1] for _, _, load, cost in found)
     return {"node": node, "deep": deep, "byte": byte}, slopes, steps
 
 
@@ -207,31 +203,43 @@ def checks(cases, value):
     return value(one), node, max(rules.values()), nodes, rules
 
 
-def up(cost):
-    """What memset has a part in: it takes a few instructions more or less, as the memory lies."""
-    return 50 * math.ceil(cost / 50)
+# Bytes that are cleared, a number a call of memset.
+CLEARED = {"Check": [2048], "TypeCheck": [2048, 8192], "run": [128, 39040], "call": [128], "deep": [8192]}
+
+
+def clearing(what):
+    """What the C library's memset takes here, at most: a little more or less, as the memory lies."""
+    return sum(25 + count // 16 for count in CLEARED[what])
 
 
 class Bound:
-    """The constants, rounded up."""
+    """The constants, rounded up, without memset; and with it."""
 
     def __init__(self, checks, run, visit, value, expression):
-        self.checks = {call: (up(fixed), math.ceil(node), math.ceil(rule)) for call, (fixed, node, rule) in checks.items()}
-        self.run, self.value = up(run), math.ceil(value)
-        self.visit = {kind: up(cost) if kind == "call" else math.ceil(cost) for kind, cost in visit.items()}
-        self.expression = {"node": math.ceil(expression["node"]), "deep": up(expression["deep"]), "byte": math.ceil(round(expression["byte"], 1))}
+        self.checks = {call: tuple(map(math.ceil, costs)) for call, costs in checks.items()}
+        self.run, self.value = math.ceil(run), math.ceil(value)
+        self.visit = {kind: math.ceil(cost) for kind, cost in visit.items()}
+        self.expression = {what: math.ceil(round(cost, 1)) for what, cost in expression.items()}
 
     def check(self, case):
-        fixed, node, rule = self.checks["TypeCheck" if case.call in ("TypeCheck", "Display") else "Check"]
-        return fixed + node * case.nodes + rule * case.rules
+        call = "TypeCheck" if case.call in ("TypeCheck", "Display") else "Check"
+        fixed, node, rule = self.checks[call]
+        return fixed + clearing(call) + node * case.nodes + rule * case.rules
+
+    def beside(self):
+        """Of a run, beside its checks, its visits and what its start rule returns."""
+        return self.run + clearing("run")
 
     def load(self, load):
-        values, _, nodes, deep, compared = load
+        values, nodes, deep, compared = load
         more = self.expression
-        return self.value * values + more["node"] * nodes + more["deep"] * deep + more["byte"] * compared
+        return self.value * values + more["node"] * nodes + (more["deep"] + clearing("deep")) * deep + more["byte"] * compared
+
+    def a_visit(self, kind, load):
+        return self.visit[kind] + (clearing("call") if kind == "call" else 0) + self.load(load)
 
     def dearest(self, case, kind=None):
-        return max((self.visit[of] + self.load(load) for of, load in case.loads if kind in (None, of)), default=0)
+        return max((self.a_visit(of, load) for of, load in case.loads if kind in (None, of)), default=0)
 
     def of(self, case, visits=None):
         """Every visit as dear as the dearest of the table."""
@@ -239,32 +247,22 @@ class Bound:
         if case.call in ("Check", "TypeCheck"):
             return checked
         if not case.is_run():
-            return checked + self.run
-        return checked + self.run + self.load(case.start) + (case.visits if visits is None else visits) * self.dearest(case)
+            return checked + self.beside()
+        return checked + self.beside() + self.load(case.start) + (case.visits if visits is None else visits) * self.dearest(case)
 
     def by_kind(self, case):
         """Every visit as dear as the dearest of its kind in the table."""
         if not case.is_run():
             return self.of(case)
         made = sum(count * self.dearest(case, kind) for kind, count in case.kinds.items() if count)
-        return self.check(case) + self.run + self.load(case.start) + made
+        return self.check(case) + self.beside() + self.load(case.start) + made
 
 
-def bound_of(cases, group="nest"):
-    """In instructions."""
+def bound_of(cases):
     run = cases["Display"]
-    fixed = {}
-    for call in ("Check", "TypeCheck"):
-        alone, node, rule, _, _ = checks(cases[call], own)
-        fixed[call] = (alone + memset(one_node(cases[call])), node, rule)
-    visit = visits(run, own, group)
-    calls = grouped(run, group)["call, matched"]
-    visit["call"] += (memset(calls[2]) - memset(calls[3])) / calls[2].size
-    expression, _, _ = expressions(run, own)
-    depth = grouped(run, "depth")["nots in each other"]
-    expression["deep"] += max(map(memset, depth)) - min(map(memset, depth))
-    whole = smallest_run(cases).total - one_node(cases["TypeCheck"]).total
-    return Bound(fixed, whole, visit, max(a_value(run, own)), expression)
+    fixed = {call: checks(cases[call], own)[:3] for call in ("Check", "TypeCheck")}
+    beside = own(smallest_run(cases)) - own(one_node(cases["TypeCheck"]))
+    return Bound(fixed, beside, visits(run, own, "nest"), max(a_value(run, own)), expressions(run, own)[0])
 
 
 def smallest_run(cases):
@@ -295,15 +293,13 @@ class Pace:
 
 
 def pairs(cases):
-    """Calls with visits, and the same without them or with fewer."""
-    for made in grouped(cases, "nest").values():
-        yield made[2], made[3]
+    """Long calls, and the same with no visits or with fewer."""
     for made in grouped(cases, "round").values():
         yield made[1], made[0]
     for group in ("expression", "dearest"):
         for made in grouped(cases, group).values():
             for without, case in zip(made[::2], made[1::2]):
-                if case.time and case.total - without.total > 5000:
+                if case.time and case.total - without.total > 20000:
                     yield case, without
     for group in ("example", "run"):
         for case, without in grouped(cases, group).values():
@@ -368,17 +364,21 @@ def print_expressions(cases):
 
 
 def print_bound(bound, pace):
-    heading("The bound", "instructions")
+    heading("The bound", "instructions", "bytes cleared", "with memset")
     for call, name in (("Check", "table check"), ("TypeCheck", "type check, with the table check")):
-        for what, cost in zip(("at all", "a node", "a rule"), bound.checks[call]):
-            line(f"{name}: {what}", cost)
-    line("run: start, answer, clearing of W", bound.run)
+        fixed, node, rule = bound.checks[call]
+        line(f"{name}: at all", fixed, sum(CLEARED[call]), fixed + clearing(call))
+        line(f"{name}: a node", node)
+        line(f"{name}: a rule", rule)
+    line("run: start, answer, clearing of W", bound.run, sum(CLEARED["run"]), bound.beside())
     for kind in KINDS:
-        line(f"a visit: {kind}", bound.visit[kind])
+        more = (sum(CLEARED["call"]), bound.visit[kind] + clearing("call")) if kind == "call" else ()
+        line(f"a visit: {kind}", bound.visit[kind], *more)
     line("a value: an argument, or what a rule returns", bound.value)
-    names = {"node": "a node of an expression with operators", "deep": "more than 16 operators one inside the other", "byte": "a byte of two Texts compared"}
-    for what, name in names.items():
-        line(name, bound.expression[what])
+    line("a node of an expression with operators", bound.expression["node"])
+    deep = bound.expression["deep"]
+    line("more than 16 operators one inside the other", deep, sum(CLEARED["deep"]), deep + clearing("deep"))
+    line("a byte of two Texts compared", bound.expression["byte"])
     heading("Times", "ns")
     for what, took in zip(("at all", "a node", "a rule"), pace.checks):
         line(f"type check, with the table check: {what}", f"{took:.1f}")
@@ -399,13 +399,13 @@ def print_runs(cases, bound, pace):
     for case in cases["Display"]:
         if case.group in ("example", "run") and case.budget:
             most, by_kind = bound.of(case), bound.by_kind(case)
-            times = [pace.of(case, cost - bound.check(case) - bound.run) for cost in (most, by_kind)]
+            times = [pace.of(case, cost - bound.check(case) - bound.beside()) for cost in (most, by_kind)]
             line(case.name, case.rules, case.nodes, case.visits, bound.dearest(case), case.total, most, by_kind, *(f"{took:,.0f}" for took in [case.time] + times))
             print("    visits: " + ", ".join(f"{kind} {count}" for kind, count in case.kinds.items() if count))
     case = max((case for case in cases["Display"] if case.group == "example"), key=lambda case: case.visits)
     budget = 3 * case.visits // 2
     most = bound.of(case, budget)
-    line(f"    the example's table, budget {budget}", *[""] * 5, most, "", "", f"{pace.of(case, most - bound.check(case) - bound.run):,.0f}")
+    line(f"    the example's table, budget {budget}", *[""] * 5, most, "", "", f"{pace.of(case, most - bound.check(case) - bound.beside()):,.0f}")
 
 
 def tried(cases, bound):

@@ -1,5 +1,5 @@
-//! What is counted in a table to bound a visit of each of its nodes: values of a call, expressions with operators and their nodes, those that are deep, and bytes of Texts that
-//! are compared.
+//! What is counted in a table to bound a visit of each of its nodes: values of a call, nodes of expressions with operators, expressions that are deep, and bytes of Texts that are
+//! compared.
 
 use crate::grammars::Work;
 use reader_tests::reference::table::*;
@@ -11,11 +11,9 @@ pub const SHALLOW: usize = 16;
 pub struct Load {
     /// Arguments of a call and what its callee returns.
     pub values: usize,
-    /// Expressions that are no single leaf.
-    pub expressions: usize,
-    /// Their nodes.
+    /// Nodes of expressions that are no single leaf.
     pub nodes: usize,
-    /// Those of them with more than `SHALLOW` operators one inside the other.
+    /// Expressions with more than `SHALLOW` operators one inside the other.
     pub deep: usize,
     /// The most bytes that their comparisons of Texts look at.
     pub bytes: usize,
@@ -23,13 +21,7 @@ pub struct Load {
 
 impl Load {
     pub fn told(&self) -> String {
-        let all = [
-            self.values,
-            self.expressions,
-            self.nodes,
-            self.deep,
-            self.bytes,
-        ];
+        let all = [self.values, self.nodes, self.deep, self.bytes];
         all.map(|count| count.to_string()).join(":")
     }
 }
@@ -103,7 +95,6 @@ impl Counted<'_> {
         if self.table.kind(root) < ADD {
             return;
         }
-        load.expressions += 1;
         let levels = self.add_nodes(root, load);
         load.deep += usize::from(levels > SHALLOW);
     }

@@ -255,25 +255,50 @@ fn nests(cases: &mut Vec<Case>, around: usize, group: &'static str) {
     }
 }
 
-/// What is repeated, visits a round, and whether slots are set before.
-const ROUNDS: [(&str, Inner); 6] = [
+/// What is repeated. The same stands before the repeat, so that slots are set.
+const ROUNDS: [(&str, Inner); 12] = [
     ("empty", empty),
     ("terminal", stands),
     ("constraint", holds),
     ("update by a Bool", update_bool),
     ("update by an Integer", update_integer),
     ("update by a Text", update_text),
+    ("not of not of empty", |d| {
+        let inner = empty(d);
+        let inner = not(d, inner);
+        not(d, inner)
+    }),
+    ("bind of empty", |d| {
+        let part = empty(d);
+        bind(d, part)
+    }),
+    ("sequence of empties", |d| {
+        let second = empty(d);
+        before(d, SEQUENCE, empty, second)
+    }),
+    ("choice of a constraint that fails and empty", |d| {
+        let second = empty(d);
+        before(d, CHOICE, refuses, second)
+    }),
+    ("call of empty", |d| {
+        let body = empty(d);
+        call(d, body, INTEGER, 0, 0)
+    }),
+    ("call of empty, of and for 4 Texts", |d| {
+        let body = empty(d);
+        call(d, body, TEXT, 4, 4)
+    }),
 ];
 
 fn rounds(cases: &mut Vec<Case>) {
     for (name, part) in ROUNDS {
         for count in [10, 4_010] {
             let mut draft = Draft::default();
+            draft.rule(0, &[], &[]);
             let first = part(&mut draft);
             let part = part(&mut draft);
             let repeat = draft.node(REPEAT, &[part]);
-            let body = draft.node(SEQUENCE, &[first, repeat]);
-            draft.rule(body, &[], &[]);
+            draft.rules[0][0] = draft.node(SEQUENCE, &[first, repeat]);
             let made = work(draft, vec![STANDS as u8; 5_000]);
             let case = Case::new("round", name, count, Call::Display, made);
             cases.push(case.with_budget(3 + count as u32));
