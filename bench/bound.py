@@ -158,9 +158,8 @@ def evaluations(cases, value):
     for group in ("expression", "depth", "text"):
         for name, made in grouped(cases, group).items():
             for without, case in zip(made[::2], made[1::2]):
-                if value(case) is not None:
-                    load = next(load for kind, load in case.loads if kind == "constraint")
-                    found.append((group, f"{name}, {case.size}", load, value(case) - value(without) - leaf[case.number]))
+                load = next(load for kind, load in case.loads if kind == "constraint")
+                found.append((group, f"{name}, {case.size}", load, value(case) - value(without) - leaf[case.number]))
     return found
 
 
@@ -296,11 +295,9 @@ def pairs(cases):
     """Long calls, and the same with no visits or with fewer."""
     for made in grouped(cases, "round").values():
         yield made[1], made[0]
-    for group in ("expression", "dearest"):
-        for made in grouped(cases, group).values():
-            for without, case in zip(made[::2], made[1::2]):
-                if case.time and case.total - without.total > 20000:
-                    yield case, without
+    for without, case in zip(*[iter(grouped(cases, "dearest")["comparisons"])] * 2):
+        if case.size == 65535:
+            yield case, without
     for group in ("example", "run"):
         for case, without in grouped(cases, group).values():
             yield case, without

@@ -25,13 +25,12 @@ fn main() {
     }
 }
 
-/// Of the many chains of expressions just the long ones, and of the nests those that begin at the start.
+/// Of those that are long enough, or that are told by themselves.
 fn time_of(case: &mut Case) -> String {
-    let timed = match case.group {
-        "expression" => (100..=400).contains(&case.size),
-        group => group != "deep nest",
-    };
-    if !timed {
+    let timed = [
+        "check", "clearing", "start", "round", "dearest", "example", "run",
+    ];
+    if !timed.contains(&case.group) {
         return "-".to_string();
     }
     let time = least_time(&mut || {

@@ -1,5 +1,6 @@
 //! Visits of each kind: nodes one around the other, so that a table with more levels differs by just those visits; and rounds of a repeat.
 
+use super::values::{chain, LEAVES};
 use super::{work, Call, Case};
 use crate::grammars::Work;
 use reader_tests::random::draft::Draft;
@@ -256,7 +257,7 @@ fn nests(cases: &mut Vec<Case>, around: usize, group: &'static str) {
 }
 
 /// What is repeated. The same stands before the repeat, so that slots are set.
-const ROUNDS: [(&str, Inner); 12] = [
+const ROUNDS: [(&str, Inner); 16] = [
     ("empty", empty),
     ("terminal", stands),
     ("constraint", holds),
@@ -288,7 +289,21 @@ const ROUNDS: [(&str, Inner); 12] = [
         let body = empty(d);
         call(d, body, TEXT, 4, 4)
     }),
+    ("constraint of 14 nots", |d| operators(d, LOGIC_NOT, 1, 14)),
+    ("constraint of 14 ands", |d| operators(d, AND, 1, 14)),
+    ("constraint of 14 adds", |d| operators(d, ADD, 4, 14)),
+    ("constraint of 100 ands", |d| operators(d, AND, 1, 100)),
 ];
+
+/// A constraint that matches: -15 is not greater than -1.
+fn operators(draft: &mut Draft, kind: u16, leaf: usize, count: usize) -> u16 {
+    let whole = chain(draft, kind, &LEAVES[leaf], true, count);
+    let whole = match kind {
+        ADD => draft.node(LOGIC_NOT, &[whole]),
+        _ => whole,
+    };
+    draft.node(CONSTRAINT, &[whole])
+}
 
 fn rounds(cases: &mut Vec<Case>) {
     for (name, part) in ROUNDS {
