@@ -118,8 +118,9 @@ def visits(cases, value, group):
     to_second_arm = nest["choice, second matches on the way back"].back - nest["not"].back - nest["choice, first arm matched"].back
     onward = max(0, a_round["empty"] - empty, to_second_arm - empty)
     fails = nest["leaf: terminal, failed"].down - choice - sequence - empty - nest["sequence, second part failed"].back
-    refused = nest["leaf: constraint, failed"].down - choice
-    update = max(nest[f"leaf: update by {what}"].down for what in ("a Bool", "an Integer", "a Text")) - sequence
+    refused = max(nest[f"leaf: constraint{what}, failed"].down for what in ("", " of a slot")) - choice
+    holds = max(nest[f"leaf: constraint{what}, matched"].down for what in ("", " of a slot")) - sequence
+    update = max(nest[f"leaf: update by {what}"].down for what in ("a Bool", "an Integer", "a Text", "a slot")) - sequence
     by_round = max(cost for name, cost in a_round.items() if name.startswith("update"))
     last = {
         "sequence": max(second, nest["sequence, first part failed"].back, nest["sequence, second part failed"].back),
@@ -135,7 +136,7 @@ def visits(cases, value, group):
         "call": max(nest["call, matched"].level, nest["call, failed"].level),
         "bind": max(nest["bind, matched"].level, nest["bind, failed"].level),
         "update": max(update + onward, by_round),
-        "constraint": max(nest["leaf: constraint, matched"].down - sequence + onward, refused, a_round["constraint"]),
+        "constraint": max(holds + onward, refused, a_round["constraint"]),
     }
 
 
@@ -143,8 +144,9 @@ def a_value(cases, value):
     """What an argument, a returned value of a callee, and one of the start rule add at most, where it is a leaf."""
     nest = nests(cases, value, "nest")
     alone = nest["call, matched"].level
-    given = max(nest[f"call of 4 {what}, matched"].level - alone for what in ("Bools", "Integers", "Texts")) / 4
+    given = max(nest[f"call of 4 {what}, matched"].level - alone for what in ("Bools", "Integers", "Texts", "slots")) / 4
     back = max(nest[f"call for 4 {what}, matched"].level - alone for what in ("Bools", "Integers", "Texts")) / 4
+    back = max(back, (nest["call of and for 4 slots, matched"].level - nest["call of 4 slots, matched"].level) / 4)
     start = 0
     for none, one, none_of_four, four in grouped(cases, "start").values():
         start = max(start, (value(four) - value(none_of_four) - value(one) + value(none)) / 4)

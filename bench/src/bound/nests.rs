@@ -106,7 +106,56 @@ fn call(draft: &mut Draft, part: u16, kind: u16, inherited: usize, returned: usi
     draft.node(CALL, &fields)
 }
 
-const NESTS: [Nest; 35] = [
+/// Slots 0 to 3 hold an Integer, 4 true and 5 false, before every nest.
+const SET: [(u16, u16, [u16; 2]); 6] = [
+    (0, INTEGER, [0, 1]),
+    (1, INTEGER, [0, 2]),
+    (2, INTEGER, [0, 3]),
+    (3, INTEGER, [0, 4]),
+    (4, BOOL, [1, 0]),
+    (5, BOOL, [0, 0]),
+];
+
+fn constraint_of_slot(draft: &mut Draft, slot: u16) -> u16 {
+    let value = draft.node(SLOT, &[slot]);
+    draft.node(CONSTRAINT, &[value])
+}
+
+/// As `call`, but slots 0 to 3 are its arguments and what it returns.
+fn call_by_slots(draft: &mut Draft, part: u16, returned: usize) -> u16 {
+    let mut fields = [draft.rules.len() as u16, 0, 0, 0, 0, 0, 0, 0, 0];
+    for (slot, field) in fields[1..5].iter_mut().enumerate() {
+        *field = draft.node(SLOT, &[slot as u16]);
+    }
+    for (field, slot) in fields[5..5 + returned].iter_mut().zip(12..) {
+        *field = slot;
+    }
+    let back: Vec<(u16, u16)> = (0..returned as u16)
+        .map(|slot| (draft.node(SLOT, &[slot]), INTEGER_TYPE))
+        .collect();
+    draft.rule(part, &[INTEGER_TYPE; 4], &back);
+    draft.node(CALL, &fields)
+}
+
+const NESTS: [Nest; 40] = [
+    nest("leaf: update by a slot", 2, empty, |d, part| {
+        before(d, SEQUENCE, |d| update(d, 14, SLOT), part)
+    }),
+    nest(
+        "leaf: constraint of a slot, matched",
+        2,
+        empty,
+        |d, part| before(d, SEQUENCE, |d| constraint_of_slot(d, 4), part),
+    ),
+    nest("leaf: constraint of a slot, failed", 2, empty, |d, part| {
+        before(d, CHOICE, |d| constraint_of_slot(d, 5), part)
+    }),
+    nest("call of 4 slots, matched", 1, empty, |d, part| {
+        call_by_slots(d, part, 0)
+    }),
+    nest("call of and for 4 slots, matched", 1, empty, |d, part| {
+        call_by_slots(d, part, 4)
+    }),
     nest("not", 1, empty, not),
     nest("bind, matched", 1, empty, bind),
     nest("bind, failed", 1, fails, bind),
@@ -230,6 +279,11 @@ fn levels(nest: &Nest, levels: usize, around: usize) -> Work {
     for _ in 0..around {
         body = after(&mut draft, SEQUENCE, body, empty);
     }
+    for (slot, kind, fields) in SET {
+        let value = draft.node(kind, &fields);
+        let set = draft.node(UPDATE, &[slot, value]);
+        body = draft.node(SEQUENCE, &[set, body]);
+    }
     draft.rules[0][0] = body;
     work(draft, vec![STANDS as u8; 300])
 }
@@ -246,7 +300,7 @@ fn nests(cases: &mut Vec<Case>, around: usize, group: &'static str) {
             let made = levels(nest, count, around);
             Case::new(group, nest.name, count, Call::Display, made).with_budget(budget)
         };
-        let over = around as u32;
+        let over = (around + 2 * SET.len()) as u32;
         cases.push(case(FEW, u32::MAX));
         cases.push(case(FEW, 0));
         cases.push(case(MANY, u32::MAX));
