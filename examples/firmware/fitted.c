@@ -10,7 +10,7 @@ int fit(void);
 int fitted_message(const uint8_t *message, uint64_t count);
 int fitted_messages(void);
 
-/* How many visits a run may make: some ten times what the longest right message takes (998 for the first below). */
+/* How many visits a run may make: more than twice what the dearest right message takes (998 for the first below, 2,048 for one of 30 bytes). */
 #define BUDGET 10000u
 
 /* All that stands in RAM: what a run works in, and its answer. One run at a time. */

@@ -1,5 +1,5 @@
 /* What caller.c needs where there is no C library: its input and output, a start, and the functions that the reader's library calls outside (./library says which). By
-   Linux's system calls for i686, aarch64 and 32-bit ARM; on a Cortex-M by the debugger's, which an emulator answers (cortex_m.ld lays it out for one). Plain, not fast. */
+   Linux's system calls for i686, aarch64 and 32-bit ARM; on a Cortex-M by the debugger's, which an emulator answers (cortex_m.ld lays it out for one). */
 typedef __SIZE_TYPE__ count;
 
 long read(int file, void *to, unsigned long size);
@@ -116,24 +116,44 @@ void *memset(void *to, int byte, count size);
 void *memmove(void *to, const void *from, count size);
 void *memcpy(void *to, const void *from, count size);
 
+/* Word by word where both ends of a copy lie on one. */
+typedef unsigned long __attribute__((may_alias)) word;
+
+static int aligned(const void *a, const void *b)
+{
+    return (((count)a | (count)b) & (sizeof(word) - 1)) == 0;
+}
+
 void *memset(void *to, int byte, count size)
 {
-    volatile unsigned char *next = to;
-    for (count i = 0; i < size; i++)
-        next[i] = (unsigned char)byte;
+    unsigned char *next = to;
+    const word all = (unsigned char)byte * (~0ul / 255);
+    if (aligned(to, to))
+        for (; size >= sizeof(word); size -= sizeof(word), next += sizeof(word))
+            *(word *)next = all;
+    for (; size > 0; size--)
+        *next++ = (unsigned char)byte;
     return to;
+}
+
+static void forward(unsigned char *to, const unsigned char *from, count size)
+{
+    if (aligned(to, from))
+        for (; size >= sizeof(word); size -= sizeof(word), to += sizeof(word), from += sizeof(word))
+            *(word *)to = *(const word *)from;
+    for (; size > 0; size--)
+        *to++ = *from++;
 }
 
 void *memmove(void *to, const void *from, count size)
 {
-    volatile unsigned char *next = to;
-    const volatile unsigned char *old = from;
-    if ((count)to < (count)from)
-        for (count i = 0; i < size; i++)
-            next[i] = old[i];
+    unsigned char *next = to;
+    const unsigned char *old = from;
+    if ((count)to <= (count)from || (count)from + size <= (count)to)
+        forward(next, old, size);
     else
-        for (count i = size; i > 0; i--)
-            next[i - 1] = old[i - 1];
+        for (; size > 0; size--)
+            next[size - 1] = old[size - 1];
     return to;
 }
 
