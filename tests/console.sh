@@ -63,3 +63,10 @@ for input in tests/console/done-display.console "$room"/large/input-65536-bytes.
     { head -c 30 "$input"; sleep 0.2; tail -c +31 "$input"; } | "${program[@]}" >"$room/answer"
     compare "$(basename "$input" .console), in two pieces" "${input%.console}.answer"
 done
+
+# An answer that can't be written is no success: the program, which has no exit status, says so on standard error.
+for lost in '>/dev/full' '>&-'; do
+    eval "\"\${program[@]}\" <tests/console/done-display.console $lost" 2>"$room/said" || true
+    grep -qx 'console: the answer could not be written' "$room/said" || { echo "console, standard output lost ($lost): not told"; exit 1; }
+    echo "console, standard output lost ($lost): told"
+done

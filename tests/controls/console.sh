@@ -21,6 +21,8 @@ rm "$folder/done-display.console"
 fails 'an answer without an input' 'no input' tests/console.sh "$folder"
 rm "$folder"/*
 fails 'no console input' 'no input' tests/console.sh "$folder"
+READER_CONSOLE=$(printf '%s\n' bash -c 'exec "$@" 2>/dev/null' silent "$READER_CONSOLE")
+fails 'a program that loses its answer and says nothing' 'standard output lost (>/dev/full): not told' tests/console.sh
 fresh
 READER_CONSOLE=true
 fails 'a program that prints nothing' 'not the stored answer' tests/console.sh "$folder"
