@@ -272,7 +272,7 @@ array_ends() { # STATUS TEXT WORDS..
     if [ "$must" != 0 ] && [ -s "$room/said" ]; then wrong "./array $*: refused, and written all the same"; fi
     [ -z "$text" ] || grep -qF -e "$text" "$room/told" || { cat "$room/told"; wrong "./array $*: doesn't say: $text"; }
     # what the script itself answers, and what can be read only once
-    case $#:${1:-} in 1:-* | [12]:/dev/fd/*) ;; [12]:*) array_again "$came" "$1" "${2:-table}" ;; esac
+    case $#:${1:-} in 1:-* | [12]:/dev/fd/*) ;; [12]:*) array_again "$came" "$1" "${2-table}" ;; esac
 }
 
 # The program behind ./array with the sanitizers: the same.
@@ -358,7 +358,7 @@ array() {
     array_ends 2 'array LISTING [NAME]'
     array_ends 2 'array LISTING [NAME]' "$up.console" table more
     array_ends 2 'array LISTING [NAME]' --help
-    for name in 1x a-b 'a b' _x é 'x;' "$(printf 'n%.0s' {1..49})"; do array_ends 2 'NAME is a letter' "$up.console" "$name"; done
+    for name in '' 1x a-b 'a b' _x é 'x;' "$(printf 'n%.0s' {1..49})"; do array_ends 2 'NAME is a letter' "$up.console" "$name"; done
     array_ends 2 'cannot read' "$room/not-there"
     array_ends 2 'cannot read' "$room"
     # no line ends here: the first three, which are left out, would have no end

@@ -10,8 +10,8 @@ int fit(void);
 int fitted_message(const uint8_t *message, uint64_t count);
 int fitted_messages(void);
 
-/* How many visits a run may make: more than twice what the dearest right message takes (998 for the first below, 2,048 for one of 30 bytes). */
-#define BUDGET 10000u
+/* How many visits a run may make: twice what the dearest right message takes, of a maker whose names have at most 26 bytes (docs/FIRMWARE.md, 'Choosing a budget'). */
+#define BUDGET 5892u
 
 /* All that stands in RAM: what a run works in, and its answer. One run at a time. */
 static uint32_t work[STYRMFLO_WORK_WORDS];
@@ -44,13 +44,13 @@ static void put_integer(uint32_t payload)
     put_number(negative ? UINT32_MAX - payload + 1 : payload);
 }
 
-/* The bytes of a Text stand in the message or in the literals: `bytes` points there, and nothing is copied. */
+/* The bytes of a Text stand in the message or in the literals: they are read there, and nothing is copied. (An empty message may be NULL: so no place in it is pointed to.) */
 static void put_part(const uint8_t *message, uint64_t count, uint32_t tag, uint32_t payload)
 {
     const uint64_t place = styrmflo_text(count, table_literals_count, tag, payload);
-    const uint8_t *bytes = ((place >> 32 & 1) != 0 ? table_literals : message) + (place >> 16 & 0xffff);
+    const uint8_t *slice = (place >> 32 & 1) != 0 ? table_literals : message;
     for (uint32_t i = 0; i < (place & 0xffff); i++)
-        put_byte(bytes[i]);
+        put_byte(slice[(place >> 16 & 0xffff) + i]);
 }
 
 /* A value on a line of its own. A tag that has no row never comes here: see shown. */

@@ -28,8 +28,12 @@ passes 'library, with the words that it was compiled with' says ', -Os)' i686 -O
 passes 'library, what is to be brought' says 'you bring: memmove memset' i686
 ends_with_2() {
     local status=0
-    "$@" >/dev/null 2>&1 || status=$?
+    { "$@" >"$room/out"; } 2>/dev/null || status=$?
     [ "$status" = 2 ]
 }
 passes 'library, a wrong target ends with 2' ends_with_2 ./library nonsense-none-eabi
 passes 'library, wrong use ends with 2' ends_with_2 ./library --help
+passes 'library, words that leave no object end with 2' ends_with_2 ./library x86_64 -flto
+passes 'library, what it says is lost' ends_with_2 eval './library i686 >/dev/full'
+passes 'library, chains that cannot be read off' says 'not known: ' thumbv7em -mlong-calls
+passes 'library, chains as they are read off' says '    styrmflo_display 1' thumbv7em
