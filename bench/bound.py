@@ -402,7 +402,7 @@ def print_runs(cases, bound, pace):
             line(case.name, case.rules, case.nodes, case.visits, bound.dearest(case), case.total, most, by_kind, *(f"{took:,.0f}" for took in [case.time] + times))
             print("    visits: " + ", ".join(f"{kind} {count}" for kind, count in case.kinds.items() if count))
     case = max((case for case in cases["Display"] if case.group == "example"), key=lambda case: case.visits)
-    budget = 3 * case.visits // 2
+    budget = 5892  # docs/FIRMWARE.md, 'Choosing a budget'
     most = bound.of(case, budget)
     line(f"    the example's table, budget {budget}", *[""] * 5, most, "", "", f"{pace.of(case, most - bound.check(case) - bound.beside()):,.0f}")
 
