@@ -82,7 +82,7 @@ turn='%to = inttoptr i64 %l to ptr
 
 mkdir "$folder"
 module ''
-echo 'uint64_t styrmflo_text(size_t message_count, size_t literals_count, uint32_t tag, uint32_t payload);' >"$folder/styrmflo.h"
+echo 'uint64_t styrmflo_text(uint64_t message_count, uint64_t literals_count, uint32_t tag, uint32_t payload);' >"$folder/styrmflo.h"
 echo '# none' >"$folder/cycles"
 figures
 passes 'stack, a small module' tests/stack.sh "$folder"
