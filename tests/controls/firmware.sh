@@ -81,7 +81,7 @@ fresh
 if grep -q 'cc has no address and undefined-behaviour sanitizers' <<<"$(tests/firmware.sh rows)"; then
     echo 'control, firmware: no sanitizers here'
 else
-    changed 'a read past the message and the literals' 'global-buffer-overflow' fitted "$fitted" 's/^        put_byte\(bytes\[i\]\);/        { const volatile uint8_t *past = bytes + i + 20; (void)*past; put_byte(bytes[i]); }/'
+    changed 'a read past the message and the literals' 'global-buffer-overflow' fitted "$fitted" 's/^        put_byte\((slice\[.*\])\);/        { const volatile uint8_t *past = \&\1 + 20; (void)*past; put_byte(\1); }/'
     changed 'a write past the message' 'global-buffer-overflow' use "$c" 's/take_file\(text \+ 1, message, sizeof message,/take_file(text + 1, message, sizeof message + 1,/'
     changed 'a write past the listing' 'global-buffer-overflow' array "$array" 's/sizeof listing - came, file/sizeof listing, file/'
     changed 'an overflow' 'runtime error' rows "$c" 's/-\(int32_t\)\(UINT32_MAX - payload\) - 1/-(int32_t)payload/'
