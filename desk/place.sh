@@ -35,6 +35,8 @@ case $2 in
             else if ($1 == 7) for (i = 1; i <= inherited[$2]; i++) uses($(2 + i))
         }
         END {
+            # a node that the table has not
+            if (!(at in kind)) exit
             for (top = at; !(top in owner) && top in user; top = user[top]) continue
             name = kind[at] < 16 ? parsing[kind[at]] : expression[kind[at] - 15]
             print "node " at " (line " line[at] "), " name ", in rule " owner[top] ": " why[number]

@@ -88,6 +88,7 @@ answers() {
         says_the_place "$name" "$input" "$number"
     done
     rules_of_places
+    without_a_row
     try 'standard input' 0 "./run <$sample.console"
     prints 'standard input' "$sample.answer"
     try 'standard input, as -' 0 "./run - <$sample.console"
@@ -105,6 +106,16 @@ answers() {
         ln -s "$top/$command" "$room/$command-by-a-link"
         try "$command, by a link" 0 "'$room/$command-by-a-link' $sample.console"
     done
+}
+
+# A number and a node that have no row: nothing is said of them.
+without_a_row() {
+    try 'the place, a number without a row' 0 "desk/place.sh $sample.console 13 0"
+    says_nothing 'the place, a number without a row'
+    [ ! -s "$room/out" ] || wrong 'the place, a number without a row' 'something is said'
+    try 'the place, a node that is not there' 0 "desk/place.sh $sample.console 9 3"
+    says_nothing 'the place, a node that is not there'
+    [ ! -s "$room/out" ] || wrong 'the place, a node that is not there' 'something is said'
 }
 
 # Nodes of rule 0, and of others through parts, operands, arguments and returned nodes.

@@ -7,7 +7,7 @@ use crate::subject::{Home, ReadAnswer, Record, Span, Subject, Value, WriteAnswer
 /// W, as docs/WORK.md states it.
 pub const WORK_WORDS: usize = 9_760;
 
-/// The version of the exported functions, as docs/FIRMWARE.md states it.
+/// The version of the exported functions, as docs/styrmflo.h states it.
 pub const VERSION: u32 = 1;
 
 /// As they are called: the words of an answer go into a slice that the caller
