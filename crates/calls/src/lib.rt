@@ -1,8 +1,8 @@
 // Expressions over the slots in use, up to four in a row, and what becomes of their values.
 ghost use Rattle.std.specs.Prelude.{◌≡◌};
-ghost use Rattle.calls.specs.Calls.{evaluated, evaluatedFour, returnedBy, inherited, receivedAt, received};
+ghost use Rattle.calls.specs.Calls.{evaluated, evaluated_four, returned_by, inherited, received_at, received};
 ghost use Rattle.expressions.specs.Meant.{meant};
-ghost use Rattle.calls.specs.Gathering.{withValue, addedTo, added};
+ghost use Rattle.calls.specs.Gathering.{with_value, added_to, added};
 
 use expressions::Evaluated;
 use grammar::{Ending, Value};
@@ -26,7 +26,7 @@ pub enum Given {
 
 // The four with another value at place i.
 fn with_value(four: Four, i: u16, value: Value) -> Four
-    ensures { result ≡ withValue four i value }
+    ensures { result ≡ with_value four i value }
 {
     let a = four.a;
     let b = four.b;
@@ -62,7 +62,7 @@ fn with_value(four: Four, i: u16, value: Value) -> Four
 }
 
 fn add_to(four: Four, i: u16, res: Evaluated) -> Given
-    ensures { result ≡ addedTo four i (meant res) }
+    ensures { result ≡ added_to four i (meant res) }
 {
     match res {
         Evaluated::Is(value) => Given::Are(with_value(four, i, value)),
@@ -111,7 +111,7 @@ pub fn evaluate_four<'a>(
     k2: u16,
     k3: u16,
 ) -> Given
-    ensures { result ≡ evaluatedFour words.now literals.now message.now count k0 k1 k2 k3 work.now }
+    ensures { result ≡ evaluated_four words.now literals.now message.now count k0 k1 k2 k3 work.now }
 {
     let none = Given::Are(Four {
         a: Value::Absent,
@@ -133,7 +133,7 @@ pub fn returned_by<'a>(
     work: &[u32],
     q: u16,
 ) -> Given
-    ensures { result ≡ returnedBy words.now literals.now message.now q work.now }
+    ensures { result ≡ returned_by words.now literals.now message.now q work.now }
 {
     let count = records::returned_count(words, q);
     let k0 = records::returned_node(words, q, 0);
@@ -160,7 +160,7 @@ pub fn inherit(work: &mut [u32], four: Four)
 
 // Receiving slot i of `count`.
 fn receive_at(work: &mut [u32], i: u16, count: u16, s: u16, value: Value)
-    ensures { work.new ≡ receivedAt i count s value work.old }
+    ensures { work.new ≡ received_at i count s value work.old }
 {
     if i < count {
         frames::write_slot(work, s, value);

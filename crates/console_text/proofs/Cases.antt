@@ -7,29 +7,29 @@ use Prim.Native.Nat.{ℕ, ◌<◌}
 use lib.IntN.{pos, negsuc}
 use lib.ListN.{length}
 use borrow.Author.Tests.{lt-ltb}
-use Rattle.laws.specs.Counting.{tabulate, smallestFailing, howMany}
+use Rattle.laws.specs.Counting.{tabulate, smallest_failing, how_many}
 use Rattle.grammar.specs.declared.Value.{Value}
 use Rattle.grammar.specs.declared.Value.TheVariants as Val
-use Rattle.grammar.specs.Words.{nodes, nodeFor, nodeAt}
-use Rattle.grammar.specs.Tree.{node, exprOf, parsingOf, exprWith, exprAt, parsingWith, parsingAt, ruleAt, grammarOf}
+use Rattle.grammar.specs.Words.{nodes, node_for, node_at}
+use Rattle.grammar.specs.Tree.{node, expr_of, parsing_of, expr_with, expr_at, parsing_with, parsing_at, rule_at, grammar_of}
 use Rattle.grammar.specs.Form as F
 use Rattle.grammar.specs.Types as T
 use Rattle.grammar.specs.Values as L
 use Rattle.grammar.specs.Run as R
 use Rattle.grammar.specs.Answer as A
-use Rattle.text.specs.Found.{afterKey, digit, grown, numberFrom, number, hexValue, pairValue, pairs}
-use Rattle.text.specs.Written.{digits, decimal, signedDecimal, hexDigit, hex}
+use Rattle.text.specs.Found.{after_key, digit, grown, number_from, number, hex_value, pair_value, pairs}
+use Rattle.text.specs.Written.{digits, decimal, signed_decimal, hex_digit, hex}
 use Rattle.listing.specs.Listing.{ending}
-use Rattle.listing.specs.Reading.{numbersAt, line_at, linesAt, countAt, literalsAt, headAt, body_at}
+use Rattle.listing.specs.Reading.{numbers_at, line_at, lines_at, count_at, literals_at, head_at, body_at}
 use Rattle.listing.specs.Plain.{first_lines}
-use Rattle.console_text.specs.Asked.{modeLine, budgetAt, messageAt, table_at, said}
-use Rattle.console_text.specs.Printed.{numberLine, textText, valueText, valueLine, numberLines, valueLines, answerLines}
-use Rattle.console_text.specs.Console.{longestInput, answerTo, consoleAnswer, printed, consoleText}
+use Rattle.console_text.specs.Asked.{mode_line, budget_at, message_at, table_at, said}
+use Rattle.console_text.specs.Printed.{number_line, text_text, value_text, value_line, number_lines, value_lines, answer_lines}
+use Rattle.console_text.specs.Console.{longest_input, answer_to, console_answer, printed, console_text}
 
 -- ════ Case A ════
 
-unfoldable pub inputA : List ℕ
-inputA =
+unfoldable pub input_a : List ℕ
+input_a =
     109 ∷ 111 ∷ 100 ∷ 101 ∷ 61 ∷ 100 ∷ 105 ∷ 115 ∷ 112 ∷ 108 ∷ 97 ∷ 121 ∷ 10  -- `mode=display`
     ∷ 98 ∷ 117 ∷ 100 ∷ 103 ∷ 101 ∷ 116 ∷ 61 ∷ 50 ∷ 10  -- `budget=2`
     ∷ 109 ∷ 101 ∷ 115 ∷ 115 ∷ 97 ∷ 103 ∷ 101 ∷ 61 ∷ 52 ∷ 55 ∷ 51 ∷ 49 ∷ 10  -- `message=4731`
@@ -42,8 +42,8 @@ inputA =
     ∷ 110 ∷ 111 ∷ 100 ∷ 101 ∷ 61 ∷ 49 ∷ 57 ∷ 32 ∷ 48 ∷ 32 ∷ 48 ∷ 32 ∷ 48 ∷ 32 ∷ 48 ∷ 32 ∷ 48 ∷ 32 ∷ 48 ∷ 32 ∷ 48 ∷ 32 ∷ 48 ∷ 32 ∷ 48 ∷ 10  -- `node=19 0 0 0 0 0 0 0 0 0`
     ∷ []
 
-unfoldable pub printedA : List ℕ
-printedA =
+unfoldable pub printed_a : List ℕ
+printed_a =
     97 ∷ 110 ∷ 115 ∷ 119 ∷ 101 ∷ 114 ∷ 61 ∷ 48 ∷ 10  -- `answer=0`
     ∷ 112 ∷ 108 ∷ 97 ∷ 99 ∷ 101 ∷ 61 ∷ 48 ∷ 10  -- `place=0`
     ∷ 99 ∷ 111 ∷ 110 ∷ 115 ∷ 117 ∷ 109 ∷ 101 ∷ 100 ∷ 61 ∷ 49 ∷ 10  -- `consumed=1`
@@ -54,15 +54,15 @@ printedA =
     ∷ 118 ∷ 97 ∷ 108 ∷ 117 ∷ 101 ∷ 61 ∷ 48 ∷ 10  -- `value=0`
     ∷ []
 
-pub case-a : consoleText inputA ≡ printedA
-unfolding inputA printedA afterKey digit grown numberFrom number hexValue pairValue pairs ending numbersAt line_at linesAt countAt literalsAt headAt body_at modeLine budgetAt messageAt table_at said answerTo consoleAnswer printed consoleText digits decimal hexDigit hex numberLine textText valueText valueLine numberLines valueLines answerLines tabulate smallestFailing howMany nodes nodeFor nodeAt node exprOf parsingOf exprWith exprAt parsingWith parsingAt ruleAt grammarOf F.fieldSorts F.fieldSort F.ruleSorts F.fits F.ruleWordOk F.nodeWordOk F.wordOk F.usesNode F.wordUses F.uses F.every F.sizeOk F.tableCheck T.exprType T.has T.haveAll T.assign T.type_of T.typedAfter T.typedRule T.untyped L.spanBytes L.textBytes R.eval R.evalAll R.next R.withValue R.fresh R.byteStands R.due R.returning R.visit R.admit R.apply A.number A.place A.endingNumber A.typeRules A.typeCheck A.check A.run A.answer_of A.conclude A.answer
-case-a = refl
+pub case_a : console_text input_a ≡ printed_a
+unfolding input_a printed_a after_key digit grown number_from number hex_value pair_value pairs ending numbers_at line_at lines_at count_at literals_at head_at body_at mode_line budget_at message_at table_at said answer_to console_answer printed console_text digits decimal hex_digit hex number_line text_text value_text value_line number_lines value_lines answer_lines tabulate smallest_failing how_many nodes node_for node_at node expr_of parsing_of expr_with expr_at parsing_with parsing_at rule_at grammar_of F.field_sorts F.field_sort F.rule_sorts F.fits F.rule_word_ok F.node_word_ok F.word_ok F.uses_node F.word_uses F.uses F.every F.size_ok F.table_check T.expr_type T.has T.have_all T.assign T.type_of T.typed_after T.typed_rule T.untyped L.span_bytes L.text_bytes R.eval R.eval_all R.next R.with_value R.fresh R.byte_stands R.due R.returning R.visit R.admit R.apply A.number A.place A.ending_number A.type_rules A.type_check A.check A.run A.answer_of A.conclude A.answer
+case_a = refl
 
 -- ════ LINE and INPUT ════
 
 -- 'every other answer prints these eight lines'; 'LINE counts from the first line': of case A the first six lines alone, so that the first rule is missing
-unfoldable pub printedLine : List ℕ
-printedLine =
+unfoldable pub printed_line : List ℕ
+printed_line =
     97 ∷ 110 ∷ 115 ∷ 119 ∷ 101 ∷ 114 ∷ 61 ∷ 50 ∷ 48 ∷ 10  -- `answer=20`
     ∷ 112 ∷ 108 ∷ 97 ∷ 99 ∷ 101 ∷ 61 ∷ 55 ∷ 10  -- `place=7`
     ∷ 99 ∷ 111 ∷ 110 ∷ 115 ∷ 117 ∷ 109 ∷ 101 ∷ 100 ∷ 61 ∷ 48 ∷ 10  -- `consumed=0`
@@ -73,19 +73,19 @@ printedLine =
     ∷ 118 ∷ 97 ∷ 108 ∷ 117 ∷ 101 ∷ 61 ∷ 48 ∷ 10  -- `value=0`
     ∷ []
 
-pub line-missing : consoleText (first_lines 6 inputA) ≡ printedLine
-unfolding inputA printedLine first_lines afterKey digit grown numberFrom number hexValue pairValue pairs ending numbersAt line_at linesAt countAt literalsAt headAt body_at modeLine budgetAt messageAt table_at said consoleAnswer printed consoleText digits decimal hexDigit hex numberLine textText valueText valueLine numberLines valueLines answerLines
-line-missing = refl
+pub line_missing : console_text (first_lines 6 input_a) ≡ printed_line
+unfolding input_a printed_line first_lines after_key digit grown number_from number hex_value pair_value pairs ending numbers_at line_at lines_at count_at literals_at head_at body_at mode_line budget_at message_at table_at said console_answer printed console_text digits decimal hex_digit hex number_line text_text value_text value_line number_lines value_lines answer_lines
+line_missing = refl
 
 -- 'INPUT comes before all else and prints `answer=23` alone', whatever the input's bytes
-unfoldable pub printedInput : List ℕ
-printedInput =
+unfoldable pub printed_input : List ℕ
+printed_input =
     97 ∷ 110 ∷ 115 ∷ 119 ∷ 101 ∷ 114 ∷ 61 ∷ 50 ∷ 51 ∷ 10  -- `answer=23`
     ∷ []
 
-pub input-alone : (input : List ℕ) → longestInput < length input → consoleText input ≡ printedInput
-unfolding printedInput consoleAnswer printed consoleText numberLine decimal digits
-input-alone input h = rw (lt-ltb longestInput (length input) h)
+pub input_alone : (input : List ℕ) → longest_input < length input → console_text input ≡ printed_input
+unfolding printed_input console_answer printed console_text number_line decimal digits
+input_alone input h = rw (lt-ltb longest_input (length input) h)
 
 -- ════ Values ════
 
@@ -105,6 +105,6 @@ values =
     ∷ (Val.Text (record { literal = true; start = 0; length = 2 }), 51 ∷ 32 ∷ 48 ∷ 97 ∷ 102 ∷ 102 ∷ [])  -- `3 0aff`
     ∷ []
 
-pub values-printed : map (λ (c : Value × List ℕ). valueText (71 ∷ 49 ∷ []) (10 ∷ 255 ∷ []) c.0) values ≡ map (λ (c : Value × List ℕ). c.1) values
-unfolding values digits decimal signedDecimal hexDigit hex L.spanBytes L.textBytes textText valueText
-values-printed = refl
+pub values_printed : map (λ (c : Value × List ℕ). value_text (71 ∷ 49 ∷ []) (10 ∷ 255 ∷ []) c.0) values ≡ map (λ (c : Value × List ℕ). c.1) values
+unfolding values digits decimal signed_decimal hex_digit hex L.span_bytes L.text_bytes text_text value_text
+values_printed = refl

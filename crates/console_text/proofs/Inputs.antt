@@ -11,28 +11,28 @@ use Rattle.grammar.specs.declared.Mode.TheVariants.{Bench, Display}
 use Rattle.grammar.specs.declared.Value.TheVariants as Val
 use Rattle.grammar.specs.declared.Answer.{Answer}
 use Rattle.grammar.specs.Form.{every}
-use Rattle.grammar.specs.Values.{spanBytes, textBytes}
+use Rattle.grammar.specs.Values.{span_bytes, text_bytes}
 use Rattle.text.specs.declared.Number.TheVariants as N
 use Rattle.text.specs.declared.Bytes.TheVariants as B
 use Rattle.text.specs.Stored.{taking}
-use Rattle.text.specs.Found.{afterKey, digit, grown, numberFrom, number, hexValue, pairValue, pairs}
-use Rattle.text.specs.Written.{digits, decimal, signedDecimal, hexDigit, hex}
-use Rattle.listing.specs.Listing.{ending, numbers, line, recordLines, literalsLine, headLines, bodyLines, listing}
-use Rattle.listing.specs.Reading.{numbersAt, line_at, linesAt, countAt, literalsAt, headAt, body_at}
+use Rattle.text.specs.Found.{after_key, digit, grown, number_from, number, hex_value, pair_value, pairs}
+use Rattle.text.specs.Written.{digits, decimal, signed_decimal, hex_digit, hex}
+use Rattle.listing.specs.Listing.{ending, numbers, line, record_lines, literals_line, head_lines, body_lines, listing}
+use Rattle.listing.specs.Reading.{numbers_at, line_at, lines_at, count_at, literals_at, head_at, body_at}
 use Rattle.listing.specs.Plain.{first_lines}
 use Rattle.console_text.specs.declared.request.ModeLine.TheVariants as M
 use Rattle.console_text.specs.declared.Response.TheVariants.{Written, Short}
-use Rattle.console_text.specs.Asked.{says, wrongLine, Asked, modeLine, budgetAt, messageAt, table_at, said}
-use Rattle.console_text.specs.Printed.{numberLine, textText, valueText, valueLine, numberLines, valueLines, answerLines}
-use Rattle.console_text.specs.Console.{tooLong, wrongAt, consoleAnswer, printed, consoleText}
+use Rattle.console_text.specs.Asked.{says, wrong_line, Asked, mode_line, budget_at, message_at, table_at, said}
+use Rattle.console_text.specs.Printed.{number_line, text_text, value_text, value_line, number_lines, value_lines, answer_lines}
+use Rattle.console_text.specs.Console.{too_long, wrong_at, console_answer, printed, console_text}
 use Rattle.console_text.specs.Lent.{lent, enough, room_for, afterwards, responded, respond}
 use Rattle.console_text.specs.Plain.{spelt}
-use Rattle.console_text.proofs.Cases.{inputA, printedInput}
+use Rattle.console_text.proofs.Cases.{input_a, printed_input}
 
 -- ════ Case A ════
 
-abbrev askedA : Asked
-askedA =
+abbrev asked_a : Asked
+asked_a =
     record {
       mode = Display;
       budget = 2;
@@ -50,32 +50,32 @@ askedA =
           };
     }
 
-pub asked-a : said inputA ≡ says askedA
-unfolding inputA said modeLine budgetAt messageAt table_at headAt body_at countAt literalsAt linesAt line_at numbersAt ending afterKey number numberFrom grown digit pairs pairValue hexValue
-asked-a = refl
+pub asked_a_lem : said input_a ≡ says asked_a
+unfolding input_a said mode_line budget_at message_at table_at head_at body_at count_at literals_at lines_at line_at numbers_at ending after_key number number_from grown digit pairs pair_value hex_value
+asked_a_lem = refl
 
-pub spelt-a : spelt askedA ≡ inputA
-unfolding inputA spelt numberLine listing headLines bodyLines literalsLine recordLines line numbers ending hex hexDigit decimal digits
-spelt-a = refl
+pub spelt_a : spelt asked_a ≡ input_a
+unfolding input_a spelt number_line listing head_lines body_lines literals_line record_lines line numbers ending hex hex_digit decimal digits
+spelt_a = refl
 
 -- ════ LINE ════
 
 -- 'LINE counts from the first line': case A without its last line, without its last two, and so on; and with a byte more, one more line
-pub lines-missing :
-    map (λ (n : ℕ). said (first_lines n inputA)) (0 ∷ 1 ∷ 2 ∷ 3 ∷ 4 ∷ 5 ∷ 6 ∷ 7 ∷ 8 ∷ 9 ∷ [])
-    ≡ wrongLine 1 ∷ wrongLine 2 ∷ wrongLine 3 ∷ wrongLine 4 ∷ wrongLine 5 ∷ wrongLine 6 ∷ wrongLine 7 ∷ wrongLine 8 ∷ wrongLine 9 ∷ wrongLine 10 ∷ []
-unfolding inputA first_lines said modeLine budgetAt messageAt table_at headAt body_at countAt literalsAt linesAt line_at numbersAt ending afterKey number numberFrom grown digit pairs pairValue hexValue
-lines-missing = refl
+pub lines_missing :
+    map (λ (n : ℕ). said (first_lines n input_a)) (0 ∷ 1 ∷ 2 ∷ 3 ∷ 4 ∷ 5 ∷ 6 ∷ 7 ∷ 8 ∷ 9 ∷ [])
+    ≡ wrong_line 1 ∷ wrong_line 2 ∷ wrong_line 3 ∷ wrong_line 4 ∷ wrong_line 5 ∷ wrong_line 6 ∷ wrong_line 7 ∷ wrong_line 8 ∷ wrong_line 9 ∷ wrong_line 10 ∷ []
+unfolding input_a first_lines said mode_line budget_at message_at table_at head_at body_at count_at literals_at lines_at line_at numbers_at ending after_key number number_from grown digit pairs pair_value hex_value
+lines_missing = refl
 
-pub a-line-more : said (inputA ++ (10 ∷ [])) ≡ wrongLine 11
-unfolding inputA said modeLine budgetAt messageAt table_at headAt body_at countAt literalsAt linesAt line_at numbersAt ending afterKey number numberFrom grown digit pairs pairValue hexValue
-a-line-more = refl
+pub a_line_more : said (input_a ++ (10 ∷ [])) ≡ wrong_line 11
+unfolding input_a said mode_line budget_at message_at table_at head_at body_at count_at literals_at lines_at line_at numbers_at ending after_key number number_from grown digit pairs pair_value hex_value
+a_line_more = refl
 
 -- ════ The first three lines ════
 
 -- '`mode=` (bench or display)'; the third without byte 10
 pub modes :
-    map modeLine
+    map mode_line
     ((109 ∷ 111 ∷ 100 ∷ 101 ∷ 61 ∷ 98 ∷ 101 ∷ 110 ∷ 99 ∷ 104 ∷ 10 ∷ [])  -- `mode=bench`
     ∷ (109 ∷ 111 ∷ 100 ∷ 101 ∷ 61 ∷ 100 ∷ 105 ∷ 115 ∷ 112 ∷ 108 ∷ 97 ∷ 121 ∷ 10 ∷ [])  -- `mode=display`
     ∷ (109 ∷ 111 ∷ 100 ∷ 101 ∷ 61 ∷ 98 ∷ 101 ∷ 110 ∷ 99 ∷ 104 ∷ [])  -- `mode=bench`
@@ -85,12 +85,12 @@ pub modes :
     ∷ (98 ∷ 117 ∷ 100 ∷ 103 ∷ 101 ∷ 116 ∷ 61 ∷ 50 ∷ 10 ∷ [])  -- `budget=2`
     ∷ [])
     ≡ M.Is Bench 11 ∷ M.Is Display 13 ∷ M.Wrong ∷ M.Wrong ∷ M.Wrong ∷ M.Wrong ∷ M.Wrong ∷ []
-unfolding modeLine afterKey
+unfolding mode_line after_key
 modes = refl
 
 -- 'Budget is a decimal up to 4294967295, no leading zero'
 pub budgets :
-    map (λ (l : List ℕ). budgetAt l 0)
+    map (λ (l : List ℕ). budget_at l 0)
     ((98 ∷ 117 ∷ 100 ∷ 103 ∷ 101 ∷ 116 ∷ 61 ∷ 48 ∷ 10 ∷ [])  -- `budget=0`
     ∷ (98 ∷ 117 ∷ 100 ∷ 103 ∷ 101 ∷ 116 ∷ 61 ∷ 52 ∷ 50 ∷ 57 ∷ 52 ∷ 57 ∷ 54 ∷ 55 ∷ 50 ∷ 57 ∷ 53 ∷ 10 ∷ [])  -- `budget=4294967295`
     ∷ (98 ∷ 117 ∷ 100 ∷ 103 ∷ 101 ∷ 116 ∷ 61 ∷ 52 ∷ 50 ∷ 57 ∷ 52 ∷ 57 ∷ 54 ∷ 55 ∷ 50 ∷ 57 ∷ 54 ∷ 10 ∷ [])  -- `budget=4294967296`
@@ -100,23 +100,23 @@ pub budgets :
     ∷ (114 ∷ 117 ∷ 108 ∷ 101 ∷ 115 ∷ 61 ∷ 50 ∷ 10 ∷ [])  -- `rules=2`
     ∷ [])
     ≡ N.Is 0 9 ∷ N.Is 4294967295 18 ∷ N.Wrong ∷ N.Wrong ∷ N.Wrong ∷ N.Wrong ∷ N.Wrong ∷ []
-unfolding budgetAt afterKey number numberFrom grown digit
+unfolding budget_at after_key number number_from grown digit
 budgets = refl
 
 -- '`message=` (hex)'
 pub messages :
-    map (λ (l : List ℕ). messageAt l 0)
+    map (λ (l : List ℕ). message_at l 0)
     ((109 ∷ 101 ∷ 115 ∷ 115 ∷ 97 ∷ 103 ∷ 101 ∷ 61 ∷ 10 ∷ [])  -- `message=`
     ∷ (109 ∷ 101 ∷ 115 ∷ 115 ∷ 97 ∷ 103 ∷ 101 ∷ 61 ∷ 52 ∷ 55 ∷ 51 ∷ 49 ∷ 10 ∷ [])  -- `message=4731`
     ∷ (109 ∷ 101 ∷ 115 ∷ 115 ∷ 97 ∷ 103 ∷ 101 ∷ 61 ∷ 48 ∷ 97 ∷ 102 ∷ 102 ∷ 10 ∷ [])  -- `message=0aff`
     ∷ [])
     ≡ taking [] (B.Are 0 9) ∷ taking (71 ∷ 49 ∷ []) (B.Are 2 13) ∷ taking (10 ∷ 255 ∷ []) (B.Are 2 13) ∷ []
-unfolding messageAt afterKey pairs pairValue hexValue digit
+unfolding message_at after_key pairs pair_value hex_value digit
 messages = refl
 
 -- 'all hex is lower-case pairs': the fourth without byte 10
-pub no-messages :
-    map (λ (l : List ℕ). (messageAt l 0).found)
+pub no_messages :
+    map (λ (l : List ℕ). (message_at l 0).found)
     ((109 ∷ 101 ∷ 115 ∷ 115 ∷ 97 ∷ 103 ∷ 101 ∷ 61 ∷ 48 ∷ 65 ∷ 70 ∷ 70 ∷ 10 ∷ [])  -- `message=0AFF`
     ∷ (109 ∷ 101 ∷ 115 ∷ 115 ∷ 97 ∷ 103 ∷ 101 ∷ 61 ∷ 52 ∷ 55 ∷ 51 ∷ 10 ∷ [])  -- `message=473`
     ∷ (109 ∷ 101 ∷ 115 ∷ 115 ∷ 97 ∷ 103 ∷ 101 ∷ 61 ∷ 52 ∷ 55 ∷ 32 ∷ 51 ∷ 49 ∷ 10 ∷ [])  -- `message=47 31`
@@ -124,8 +124,8 @@ pub no-messages :
     ∷ (108 ∷ 105 ∷ 116 ∷ 101 ∷ 114 ∷ 97 ∷ 108 ∷ 115 ∷ 61 ∷ 52 ∷ 55 ∷ 51 ∷ 49 ∷ 10 ∷ [])  -- `literals=4731`
     ∷ [])
     ≡ B.Wrong ∷ B.Wrong ∷ B.Wrong ∷ B.Wrong ∷ B.Wrong ∷ []
-unfolding messageAt afterKey pairs pairValue hexValue digit
-no-messages = refl
+unfolding message_at after_key pairs pair_value hex_value digit
+no_messages = refl
 
 -- ════ The eight lines ════
 
@@ -144,8 +144,8 @@ record1 =
     }
 
 -- 'number, place, consumed, visits, four values'
-pub eight-lines :
-    answerLines (71 ∷ 49 ∷ []) [] record1
+pub eight_lines :
+    answer_lines (71 ∷ 49 ∷ []) [] record1
     ≡ 97 ∷ 110 ∷ 115 ∷ 119 ∷ 101 ∷ 114 ∷ 61 ∷ 49 ∷ 10  -- `answer=1`
     ∷ 112 ∷ 108 ∷ 97 ∷ 99 ∷ 101 ∷ 61 ∷ 50 ∷ 10  -- `place=2`
     ∷ 99 ∷ 111 ∷ 110 ∷ 115 ∷ 117 ∷ 109 ∷ 101 ∷ 100 ∷ 61 ∷ 51 ∷ 10  -- `consumed=3`
@@ -155,30 +155,30 @@ pub eight-lines :
     ∷ 118 ∷ 97 ∷ 108 ∷ 117 ∷ 101 ∷ 61 ∷ 51 ∷ 10  -- `value=3`
     ∷ 118 ∷ 97 ∷ 108 ∷ 117 ∷ 101 ∷ 61 ∷ 51 ∷ 32 ∷ 52 ∷ 55 ∷ 10  -- `value=3 47`
     ∷ []
-unfolding answerLines numberLines valueLines numberLine valueLine valueText textText spanBytes textBytes hex hexDigit signedDecimal decimal digits
-eight-lines = refl
+unfolding answer_lines number_lines value_lines number_line value_line value_text text_text span_bytes text_bytes hex hex_digit signed_decimal decimal digits
+eight_lines = refl
 
 -- ════ INPUT, and slices that are too short ════
 
 -- 'console input over 65,536 bytes'
-pub longest-input : map consoleAnswer (replicate 65536 48 ∷ replicate 65537 48 ∷ []) ≡ wrongAt 1 ∷ tooLong ∷ []
-unfolding consoleAnswer said modeLine afterKey
-longest-input = refl
+pub longest_input : map console_answer (replicate 65536 48 ∷ replicate 65537 48 ∷ []) ≡ wrong_at 1 ∷ too_long ∷ []
+unfolding console_answer said mode_line after_key
+longest_input = refl
 
-abbrev outputOf : ℕ → List ℕ
-outputOf n = replicate n 7
+abbrev output_of : ℕ → List ℕ
+output_of n = replicate n 7
 
 -- 'INPUT comes before all else': ten bytes of the output are enough for it, nine are not; what stands behind the line stays
-pub input-before-all :
-    map (λ (n : ℕ). respond (replicate 65537 48) (lent [] [] [] [] (outputOf n))) (12 ∷ 9 ∷ [])
-    ≡ responded (Written 10) (lent [] [] [] [] (printedInput ++ outputOf 2)) ∷ responded Short (lent [] [] [] [] (outputOf 9)) ∷ []
-unfolding printedInput respond room_for afterwards over consoleText consoleAnswer printed numberLine decimal digits
-input-before-all = refl
+pub input_before_all :
+    map (λ (n : ℕ). respond (replicate 65537 48) (lent [] [] [] [] (output_of n))) (12 ∷ 9 ∷ [])
+    ≡ responded (Written 10) (lent [] [] [] [] (printed_input ++ output_of 2)) ∷ responded Short (lent [] [] [] [] (output_of 9)) ∷ []
+unfolding printed_input respond room_for afterwards over console_text console_answer printed number_line decimal digits
+input_before_all = refl
 
 -- every other answer wants slices that have room for every input
-pub other-answers-want-room : respond [] (lent [] [] [] [] (outputOf 12)) ≡ responded Short (lent [] [] [] [] (outputOf 12))
+pub other_answers_want_room : respond [] (lent [] [] [] [] (output_of 12)) ≡ responded Short (lent [] [] [] [] (output_of 12))
 unfolding respond room_for enough every
-other-answers-want-room = refl
+other_answers_want_room = refl
 
 -- each slice just long enough; and each in turn one too short
 pub just_enough :

@@ -13,92 +13,92 @@ use Rattle.text.specs.declared.Number.TheVariants as N
 use Rattle.text.specs.declared.Bytes.{Bytes}
 use Rattle.text.specs.declared.Bytes.TheVariants as B
 use Rattle.text.specs.Stored.{Taken}
-use Rattle.text.specs.Found.{onNumber, onBytes}
+use Rattle.text.specs.Found.{on_number, on_bytes}
 use Rattle.listing.specs.declared.reader.Lines.{Lines}
 use Rattle.listing.specs.declared.reader.Lines.TheVariants as L
 use Rattle.listing.specs.Listing.{listing}
 use Rattle.listing.specs.Plain.{first_lines, IsListing}
 use Rattle.listing.specs.Plain as Listing
-use Rattle.listing.proofs.FirstLines.{Whole, inside, decimal-line, hex-line}
-use Rattle.listing.proofs.Stopping.{Line-then, Some, some-line, same-wrong, one-first, Told, stops-here, told-after}
-use Rattle.listing.proofs.RightLines.{some-listing}
+use Rattle.listing.proofs.FirstLines.{Whole, inside, decimal_line, hex_line}
+use Rattle.listing.proofs.Stopping.{Line-then, Some, some_line, same_wrong, one_first, Told, stops_here, told_after}
+use Rattle.listing.proofs.RightLines.{some_listing}
 use Rattle.console_text.specs.declared.request.ModeLine.{ModeLine}
 use Rattle.console_text.specs.declared.request.ModeLine.TheVariants as M
-use Rattle.console_text.specs.Asked.{budgetKey, messageKey, Said, says, wrongLine, onSaid, onMode, Table, Asked, modeLine, budgetAt, messageAt, table_at, fromFourth, fromThird, fromSecond, said}
-use Rattle.console_text.specs.Printed.{numberLine}
-use Rattle.console_text.specs.Plain.{modeSpelt, messageSpelt, spelt, Right, FirstWrong, LineExactly, Judged, isSpelt, isWrongAt}
-use Rattle.console_text.proofs.Tables.{message-found}
-use Rattle.console_text.proofs.Exactly.{table-wrong, mode-found, budget-found, mode-back, budget-back, message-back, accepted-exactly}
+use Rattle.console_text.specs.Asked.{budget_key, message_key, Said, says, wrong_line, on_said, on_mode, Table, Asked, mode_line, budget_at, message_at, table_at, from_fourth, from_third, from_second, said}
+use Rattle.console_text.specs.Printed.{number_line}
+use Rattle.console_text.specs.Plain.{mode_spelt, message_spelt, spelt, Right, FirstWrong, LineExactly, Judged, is_spelt, is_wrong_at}
+use Rattle.console_text.proofs.Tables.{message_found}
+use Rattle.console_text.proofs.Exactly.{table_wrong, mode_found, budget_found, mode_back, budget_back, message_back, accepted_exactly}
 
 -- ════ Right inputs, line after line ════
 
 abbrev FromThird : List ℕ → Type 0
-FromThird = Line-then messageSpelt (AllBelow 256) (λ message. IsListing)
+FromThird = Line-then message_spelt (AllBelow 256) (λ message. IsListing)
 
 abbrev FromSecond : List ℕ → Type 0
-FromSecond = Line-then (numberLine budgetKey) (λ budget. budget < 4294967296) (λ budget. FromThird)
+FromSecond = Line-then (number_line budget_key) (λ budget. budget < 4294967296) (λ budget. FromThird)
 
 abbrev FromFirst : List ℕ → Type 0
-FromFirst = Line-then modeSpelt (λ mode. Unit {0}) (λ mode. FromSecond)
+FromFirst = Line-then mode_spelt (λ mode. Unit {0}) (λ mode. FromSecond)
 
-mode-whole : (mode : Mode) → Unit {0} → Whole 1 (modeSpelt mode)
+mode_whole : (mode : Mode) → Unit {0} → Whole 1 (mode_spelt mode)
 unfolding first_lines
-mode-whole Bench r = record { lines = λ m rest. rw (add-one m) }
-mode-whole Display r = record { lines = λ m rest. rw (add-one m) }
+mode_whole Bench r = record { lines = λ m rest. rw (add-one m) }
+mode_whole Display r = record { lines = λ m rest. rw (add-one m) }
 
-budget-whole : (budget : ℕ) → budget < 4294967296 → Whole 1 (numberLine budgetKey budget)
-unfolding numberLine
-budget-whole budget r = decimal-line (inside budgetKey refl) budget
+budget_whole : (budget : ℕ) → budget < 4294967296 → Whole 1 (number_line budget_key budget)
+unfolding number_line
+budget_whole budget r = decimal_line (inside budget_key refl) budget
 
-message-whole : (message : List ℕ) → AllBelow 256 message → Whole 1 (messageSpelt message)
-message-whole message r = hex-line (inside messageKey refl) message
+message_whole : (message : List ℕ) → AllBelow 256 message → Whole 1 (message_spelt message)
+message_whole message r = hex_line (inside message_key refl) message
 
 -- mode bench, budget 0, an empty message
-some-third : Some FromThird
-some-third = some-line [] tt some-listing
+some_third : Some FromThird
+some_third = some_line [] tt some_listing
 
-some-second : Some FromSecond
-some-second = some-line 0 (omega arith) some-third
+some_second : Some FromSecond
+some_second = some_line 0 (omega arith) some_third
 
 some_first : Some FromFirst
-some_first = some-line Bench tt some-second
+some_first = some_line Bench tt some_second
 
 abbrev IsSpelt : List ℕ → Type 0
 IsSpelt input = (a : Asked) × Right a × (input ≡ spelt a)
 
-lines-spelt : (input : List ℕ) → FromFirst input → IsSpelt input
+lines_spelt : (input : List ℕ) → FromFirst input → IsSpelt input
 unfolding spelt
-lines-spelt input m =
+lines_spelt input m =
     let b = m.follows in
     let s = b.follows in
     let t = s.follows in (
-      record { mode = m.says; budget = b.says; message = s.says; table = record { words = t.tableWords; literals = t.tableLiterals } },
-      record { budget-fits = b.right; message-fits = s.right; table = t.table },
-      m.is ∙ ap (λ (z : List ℕ). modeSpelt m.says ++ z)
-          (b.is ∙ ap (λ (z : List ℕ). numberLine budgetKey b.says ++ z) (s.is ∙ ap (λ (z : List ℕ). messageSpelt s.says ++ z) t.is)),
+      record { mode = m.says; budget = b.says; message = s.says; table = record { words = t.table_words; literals = t.table_literals } },
+      record { budget_fits = b.right; message_fits = s.right; table = t.table },
+      m.is ∙ ap (λ (z : List ℕ). mode_spelt m.says ++ z)
+          (b.is ∙ ap (λ (z : List ℕ). number_line budget_key b.says ++ z) (s.is ∙ ap (λ (z : List ℕ). message_spelt s.says ++ z) t.is)),
     )
 
-spelt-lines : (input : List ℕ) → IsSpelt input → FromFirst input
+spelt_lines : (input : List ℕ) → IsSpelt input → FromFirst input
 unfolding spelt
-spelt-lines input (a, r, e) =
+spelt_lines input (a, r, e) =
     let four : List ℕ = listing a.table.words a.table.literals in
-    let three : List ℕ = messageSpelt a.message ++ four in
+    let three : List ℕ = message_spelt a.message ++ four in
     record {
       says = a.mode;
       right = tt;
-      rest = numberLine budgetKey a.budget ++ three;
+      rest = number_line budget_key a.budget ++ three;
       is = e;
       follows = record {
         says = a.budget;
-        right = r.budget-fits;
+        right = r.budget_fits;
         rest = three;
         is = refl;
         follows = record {
           says = a.message;
-          right = r.message-fits;
+          right = r.message_fits;
           rest = four;
           is = refl;
-          follows = record { tableWords = a.table.words; tableLiterals = a.table.literals; table = r.table; is = refl };
+          follows = record { table_words = a.table.words; table_literals = a.table.literals; table = r.table; is = refl };
         };
       };
     }
@@ -107,62 +107,62 @@ spelt-lines input (a, r, e) =
 
 abbrev line_of : {A : Type 0} → Said A → Lines
 line_of (says a) = L.At 0
-line_of (wrongLine m) = L.Wrong m
+line_of (wrong_line m) = L.Wrong m
 
 module _ (input : List ℕ) where
-  table-told : (f : Table → Asked) (p : ℕ) → Told IsListing (drop p input) 4 (line_of (onSaid wrongLine (λ t. says (f t)) (table_at input p)))
-  table-told f p = go (table_at input p) refl
+  table_told : (f : Table → Asked) (p : ℕ) → Told IsListing (drop p input) 4 (line_of (on_said wrong_line (λ t. says (f t)) (table_at input p)))
+  table_told f p = go (table_at input p) refl
     where
-      go : (s : Said Table) → table_at input p ≡ s → Told IsListing (drop p input) 4 (line_of (onSaid wrongLine (λ t. says (f t)) s))
+      go : (s : Said Table) → table_at input p ≡ s → Told IsListing (drop p input) 4 (line_of (on_said wrong_line (λ t. says (f t)) s))
       go (says t) e = tt
-      go (wrongLine m) e = table-wrong input p m e
+      go (wrong_line m) e = table_wrong input p m e
 
-  message-told : (mode : Mode) (budget p : ℕ) → Told FromThird (drop p input) 3 (line_of (fromThird input mode budget p))
-  message-told mode budget p = go (messageAt input p).found refl
+  message_told : (mode : Mode) (budget p : ℕ) → Told FromThird (drop p input) 3 (line_of (from_third input mode budget p))
+  message_told mode budget p = go (message_at input p).found refl
     where
       from : Bytes → Lines
-      from s = line_of (onBytes (wrongLine 3) (λ n q. fromFourth input mode budget (messageAt input p).numbers q) s)
+      from s = line_of (on_bytes (wrong_line 3) (λ n q. from_fourth input mode budget (message_at input p).numbers q) s)
 
-      go : (s : Bytes) → (messageAt input p).found ≡ s → Told FromThird (drop p input) 3 (from s)
+      go : (s : Bytes) → (message_at input p).found ≡ s → Told FromThird (drop p input) 3 (from s)
       go (B.Are n q) e =
-          let w = message-found input p n q e in
-          told-after message-whole input p q 3 (messageAt input p).numbers w.all w.part (λ b t r f g. g) (from (B.Are n q))
-          (λ h. table-told (λ t. record { mode = mode; budget = budget; message = (messageAt input p).numbers; table = t }) q)
+          let w = message_found input p n q e in
+          told_after message_whole input p q 3 (message_at input p).numbers w.all w.part (λ b t r f g. g) (from (B.Are n q))
+          (λ h. table_told (λ t. record { mode = mode; budget = budget; message = (message_at input p).numbers; table = t }) q)
       go B.Wrong e =
-          stops-here message-whole input p 3 some-third (λ m q r s.
-          let f = sym e ∙ ap (λ (x : Taken Bytes). x.found) (message-back input p q m r s) in
+          stops_here message_whole input p 3 some_third (λ m q r s.
+          let f = sym e ∙ ap (λ (x : Taken Bytes). x.found) (message_back input p q m r s) in
           let z : ◌≡◌ {A = ℕ} 0 1 = cc in
           omega arith)
 
-  budget-told : (mode : Mode) (p : ℕ) → Told FromSecond (drop p input) 2 (line_of (fromSecond input mode p))
-  budget-told mode p = go (budgetAt input p) refl
+  budget_told : (mode : Mode) (p : ℕ) → Told FromSecond (drop p input) 2 (line_of (from_second input mode p))
+  budget_told mode p = go (budget_at input p) refl
     where
       from : Number → Lines
-      from s = line_of (onNumber (wrongLine 2) (λ budget q. fromThird input mode budget q) s)
+      from s = line_of (on_number (wrong_line 2) (λ budget q. from_third input mode budget q) s)
 
-      go : (s : Number) → budgetAt input p ≡ s → Told FromSecond (drop p input) 2 (from s)
+      go : (s : Number) → budget_at input p ≡ s → Told FromSecond (drop p input) 2 (from s)
       go (N.Is budget q) e =
-          let w = budget-found input p budget q e in
-          told-after budget-whole input p q 2 budget w.fits w.part (λ b t r f g. g) (from (N.Is budget q)) (λ h. message-told mode budget q)
+          let w = budget_found input p budget q e in
+          told_after budget_whole input p q 2 budget w.fits w.part (λ b t r f g. g) (from (N.Is budget q)) (λ h. message_told mode budget q)
       go N.Wrong e =
-          stops-here budget-whole input p 2 some-second (λ budget q r s.
-          let f = sym e ∙ budget-back input p budget q r s in
+          stops_here budget_whole input p 2 some_second (λ budget q r s.
+          let f = sym e ∙ budget_back input p budget q r s in
           let z : ◌≡◌ {A = ℕ} 0 1 = cc in
           omega arith)
 
-  mode-told : Told FromFirst input 1 (line_of (said input))
+  mode_told : Told FromFirst input 1 (line_of (said input))
   unfolding said
-  mode-told = go (modeLine input) refl
+  mode_told = go (mode_line input) refl
     where
       from : ModeLine → Lines
-      from s = line_of (onMode (wrongLine 1) (λ mode p. fromSecond input mode p) s)
+      from s = line_of (on_mode (wrong_line 1) (λ mode p. from_second input mode p) s)
 
-      go : (s : ModeLine) → modeLine input ≡ s → Told FromFirst input 1 (from s)
+      go : (s : ModeLine) → mode_line input ≡ s → Told FromFirst input 1 (from s)
       go (M.Is mode q) e =
-          told-after mode-whole input 0 q 1 mode tt (mode-found input mode q e) (λ b t r f g. g) (from (M.Is mode q)) (λ h. budget-told mode q)
+          told_after mode_whole input 0 q 1 mode tt (mode_found input mode q e) (λ b t r f g. g) (from (M.Is mode q)) (λ h. budget_told mode q)
       go M.Wrong e =
-          stops-here mode-whole input 0 1 some_first (λ mode q r s.
-          let f = sym e ∙ mode-back input mode q s in
+          stops_here mode_whole input 0 1 some_first (λ mode q r s.
+          let f = sym e ∙ mode_back input mode q s in
           let z : ◌≡◌ {A = ℕ} 0 1 = cc in
           omega arith)
 
@@ -170,8 +170,8 @@ module _ (input : List ℕ) where
 
 -- of a right input, or of what asks for it
 module _ {input : List ℕ} {n : ℕ} where
-  wrong-asked : Listing.FirstWrong IsSpelt input n → FirstWrong input n
-  wrong-asked f =
+  wrong_asked : Listing.FirstWrong IsSpelt input n → FirstWrong input n
+  wrong_asked f =
       let s = f.some_right in
       let a = s.1 in
       record {
@@ -179,45 +179,45 @@ module _ {input : List ℕ} {n : ℕ} where
         none_right = λ b r. f.none_right (spelt b) (b, r, refl);
       }
 
-  asked-wrong : FirstWrong input n → Listing.FirstWrong IsSpelt input n
-  asked-wrong f =
+  asked_wrong : FirstWrong input n → Listing.FirstWrong IsSpelt input n
+  asked_wrong f =
       let s = f.some_right in
       record {
         some_right = (spelt s.0, (s.0, s.1, refl), s.2);
         none_right = λ t a e. f.none_right a.0 a.1 (ap (first_lines (suc n)) (sym a.2) ∙ e);
       }
 
-told : (input : List ℕ) (m : ℕ) → said input ≡ wrongLine m → (n : ℕ) × (m ≡ suc n) × FirstWrong input n
+told : (input : List ℕ) (m : ℕ) → said input ≡ wrong_line m → (n : ℕ) × (m ≡ suc n) × FirstWrong input n
 told input m e =
-    let t = subst (λ (s : Said Asked). Told FromFirst input 1 (line_of s)) e (mode-told input) in
-    (t.0, omega (arith, t.1), wrong-asked (same-wrong lines-spelt spelt-lines t.2))
+    let t = subst (λ (s : Said Asked). Told FromFirst input 1 (line_of s)) e (mode_told input) in
+    (t.0, omega (arith, t.1), wrong_asked (same_wrong lines_spelt spelt_lines t.2))
 
-pub each-judged : (input : List ℕ) → Judged input
-each-judged input = go (said input) refl
+pub each_judged : (input : List ℕ) → Judged input
+each_judged input = go (said input) refl
   where
     go : (s : Said Asked) → said input ≡ s → Judged input
-    go (says a) e = let x = (accepted-exactly input a).0 e in isSpelt a x.0 x.1
-    go (wrongLine m) e = let t = told input m e in isWrongAt t.0 t.2
+    go (says a) e = let x = (accepted_exactly input a).0 e in is_spelt a x.0 x.1
+    go (wrong_line m) e = let t = told input m e in is_wrong_at t.0 t.2
 
-pub line-exactly : LineExactly
-line-exactly input n = (there, back)
+pub line_exactly : LineExactly
+line_exactly input n = (there, back)
   where
-    there : said input ≡ wrongLine (suc n) → FirstWrong input n
+    there : said input ≡ wrong_line (suc n) → FirstWrong input n
     there e =
         let t = told input (suc n) e in
         let i : t.0 ≡ n = omega (arith, t.1) in
         subst (FirstWrong input) i t.2
 
-    back : FirstWrong input n → said input ≡ wrongLine (suc n)
+    back : FirstWrong input n → said input ≡ wrong_line (suc n)
     back f = go (said input) refl
       where
-        go : (s : Said Asked) → said input ≡ s → s ≡ wrongLine (suc n)
+        go : (s : Said Asked) → said input ≡ s → s ≡ wrong_line (suc n)
         go (says a) e =
-            let x = (accepted-exactly input a).0 e in
+            let x = (accepted_exactly input a).0 e in
             absurd (f.none_right a x.0 (ap (first_lines (suc n)) (sym x.1)))
-        go (wrongLine m) e =
+        go (wrong_line m) e =
             let t = told input m e in
-            let g = asked-wrong t.2 in
-            let h = asked-wrong f in
-            let j : t.0 ≡ n = omega (arith, one-first t.0 n g h, one-first n t.0 h g) in
-            ap wrongLine (t.1 ∙ ap suc j)
+            let g = asked_wrong t.2 in
+            let h = asked_wrong f in
+            let j : t.0 ≡ n = omega (arith, one_first t.0 n g h, one_first n t.0 h g) in
+            ap wrong_line (t.1 ∙ ap suc j)

@@ -6,8 +6,8 @@ use Rattle.console_text.specs.declared.Response.{Response}
 use Rattle.console_text.specs.Lent.{Lent, Responded, responded, respond}
 
 -- the answer, and what the lent slices hold then
-pub respond-unique : (input : List ℕ) (slices : Lent) {r₁ r₂ : Response} {l₁ l₂ : Lent}
+pub respond_unique : (input : List ℕ) (slices : Lent) {r₁ r₂ : Response} {l₁ l₂ : Lent}
     → responded r₁ l₁ ≡ respond input slices → responded r₂ l₂ ≡ respond input slices → (r₁ ≡ r₂) × (l₁ ≡ l₂)
-respond-unique input slices p q =
+respond_unique input slices p q =
     let e = p ∙ sym q in
     (ap (λ (z : Responded). z.response) e, ap (λ (z : Responded). z.after) e)

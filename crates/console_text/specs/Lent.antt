@@ -2,34 +2,34 @@
 use Rattle.std.specs.Prelude.{List, [], ◌∷◌, Bool, cond, ℕ, ◌≤◌, ltb, leb, length}
 use Rattle.laws.specs.Stores.{over}
 use Rattle.grammar.specs.Form.{every}
-use Rattle.grammar.specs.Answer.{workWords, workAfter}
+use Rattle.grammar.specs.Answer.{work_words, work_after}
 use Rattle.console_text.specs.declared.Response.{Response}
 use Rattle.console_text.specs.declared.Response.TheVariants.{Written, Short}
 use Rattle.console_text.specs.declared.request.Request.{Request}
 use Rattle.console_text.specs.declared.request.Request.TheVariants as R
-use Rattle.console_text.specs.Asked.{Said, says, wrongLine, Asked}
-use Rattle.console_text.specs.Console.{longestInput, ConsoleAnswer, tooLong, wrongAt, ran, consoleAnswer, consoleText}
+use Rattle.console_text.specs.Asked.{Said, says, wrong_line, Asked}
+use Rattle.console_text.specs.Console.{longest_input, ConsoleAnswer, too_long, wrong_at, ran, console_answer, console_text}
 
 -- ════ Room for every input ════
 
 -- two hex digits of the input to a byte
-abbrev pub messageBytes : ℕ
-messageBytes = 32768
+abbrev pub message_bytes : ℕ
+message_bytes = 32768
 
 -- 3 + 15 * 64 + 10 * 1,024
-abbrev pub tableWords : ℕ
-tableWords = 11203
+abbrev pub table_words : ℕ
+table_words = 11203
 
-abbrev pub tableLiterals : ℕ
-tableLiterals = 4096
+abbrev pub table_literals : ℕ
+table_literals = 4096
 
 -- four lines of a number, with at most ten digits; four Texts of at most 32,768 bytes in hex, each in a line with `value=3 `
-abbrev pub outputBytes : ℕ
-outputBytes = 262253
+abbrev pub output_bytes : ℕ
+output_bytes = 262253
 
 -- `answer=23` and byte 10: the line that INPUT prints
-abbrev pub inputLineBytes : ℕ
-inputLineBytes = 10
+abbrev pub input_line_bytes : ℕ
+input_line_bytes = 10
 
 pub record Lent : Type 0 where
   pub message : List ℕ
@@ -44,21 +44,21 @@ lent message words literals work output =
 
 -- the lengths of slices that are long enough
 pub record Roomy (message words literals work output : ℕ) : Type 0 where
-  pub for-message : messageBytes ≤ message
-  pub for-words : tableWords ≤ words
-  pub for-literals : tableLiterals ≤ literals
-  pub for-work : workWords ≤ work
-  pub for-output : outputBytes ≤ output
+  pub for_message : message_bytes ≤ message
+  pub for_words : table_words ≤ words
+  pub for_literals : table_literals ≤ literals
+  pub for_work : work_words ≤ work
+  pub for_output : output_bytes ≤ output
 
 -- are they?
 unfoldable pub enough : (message words literals work output : ℕ) → Bool
 enough message words literals work output =
     every (
-    leb messageBytes message
-    ∷ leb tableWords words
-    ∷ leb tableLiterals literals
-    ∷ leb workWords work
-    ∷ leb outputBytes output
+    leb message_bytes message
+    ∷ leb table_words words
+    ∷ leb table_literals literals
+    ∷ leb work_words work
+    ∷ leb output_bytes output
     ∷ []
     )
 
@@ -66,7 +66,7 @@ enough message words literals work output =
 -- where every input has
 unfoldable pub room_for : (input : List ℕ) → Lent → Bool
 room_for input l =
-    cond (ltb longestInput (length input)) (leb inputLineBytes (length l.output))
+    cond (ltb longest_input (length input)) (leb input_line_bytes (length l.output))
     (enough (length l.message) (length l.words) (length l.literals) (length l.work) (length l.output))
 
 -- ════ The request ════
@@ -87,7 +87,7 @@ unfoldable pub ready : Said Asked → (message words literals : List ℕ) → Re
 ready (says a) message words literals =
     readied (R.Run a.mode a.budget (length a.message) (length a.table.words) (length a.table.literals))
     (over a.message message) (over a.table.words words) (over a.table.literals literals)
-ready (wrongLine n) message words literals = readied (R.Line n) message words literals
+ready (wrong_line n) message words literals = readied (R.Line n) message words literals
 
 -- ════ The whole ════
 
@@ -100,15 +100,15 @@ responded response after = record { response = response; after = after }
 
 -- INPUT and LINE change the output alone
 unfoldable pub afterwards : ConsoleAnswer → (text : List ℕ) → Lent → Lent
-afterwards tooLong text l = lent l.message l.words l.literals l.work (over text l.output)
-afterwards (wrongAt n) text l = lent l.message l.words l.literals l.work (over text l.output)
+afterwards too_long text l = lent l.message l.words l.literals l.work (over text l.output)
+afterwards (wrong_at n) text l = lent l.message l.words l.literals l.work (over text l.output)
 afterwards (ran a r) text l =
     lent (over a.message l.message) (over a.table.words l.words) (over a.table.literals l.literals)
-    (workAfter a.mode a.table.words a.table.literals a.message l.work) (over text l.output)
+    (work_after a.mode a.table.words a.table.literals a.message l.work) (over text l.output)
 
 -- the text stands in the output from its start on, and its length is told; a slice that is too short is told before any text, and then nothing changes
 unfoldable pub respond : (input : List ℕ) → Lent → Responded
 respond input l =
     cond (room_for input l)
-    (responded (Written (length (consoleText input))) (afterwards (consoleAnswer input) (consoleText input) l))
+    (responded (Written (length (console_text input))) (afterwards (console_answer input) (console_text input) l))
     (responded Short l)

@@ -1,10 +1,10 @@
 // The console on slices (document 01, "Listing and console"): its input in, its lines out. The program `console` reads and writes around it.
 ghost use Rattle.std.specs.Prelude.{◌≡◌, [], ◌≤◌, length};
-ghost use Rattle.grammar.specs.Answer.{answer, workAfter};
+ghost use Rattle.grammar.specs.Answer.{answer, work_after};
 ghost use Rattle.text.specs.Stored.{Wrote};
 ghost use Rattle.console_text.specs.declared.Response.TheVariants.{Written};
-ghost use Rattle.console_text.specs.Printed.{answerLines};
-ghost use Rattle.console_text.specs.Console.{longestInput, lineRecord};
+ghost use Rattle.console_text.specs.Printed.{answer_lines};
+ghost use Rattle.console_text.specs.Console.{longest_input, line_record};
 ghost use Rattle.console_text.specs.Lent.{Roomy, lent, enough, responded, respond};
 
 mod lines;
@@ -51,7 +51,7 @@ fn run<'a>(
     work: &mut [u32],
 ) -> Answer
     ensures gives { result ≡ answer mode words.now literals.now message.now budget (length work.old) }
-    ensures leaves { work.new ≡ workAfter mode words.now literals.now message.now work.old }
+    ensures leaves { work.new ≡ work_after mode words.now literals.now message.now work.old }
 {
     match mode {
         Mode::Bench => runs::bench(words, literals, message, budget, work),
@@ -68,8 +68,8 @@ fn print_run<'a>(
     work: &mut [u32],
     output: &mut [u8],
 ) -> usize
-    ensures prints { Wrote output.old 0 (answerLines message.now literals.now (answer mode words.now literals.now message.now budget (length work.old))) result output.new }
-    ensures leaves { work.new ≡ workAfter mode words.now literals.now message.now work.old }
+    ensures prints { Wrote output.old 0 (answer_lines message.now literals.now (answer mode words.now literals.now message.now budget (length work.old))) result output.new }
+    ensures leaves { work.new ≡ work_after mode words.now literals.now message.now work.old }
 {
     let answer = run(mode, budget, words, literals, message, work);
     lines::put_answer(output, 0, message, literals, answer)
@@ -77,7 +77,7 @@ fn print_run<'a>(
 
 // LINE: "Consumed and values are zero or absent unless DONE."
 fn print_line(output: &mut [u8], line: u32) -> usize
-    ensures { Wrote output.old 0 (answerLines [] [] (lineRecord line)) result output.new }
+    ensures { Wrote output.old 0 (answer_lines [] [] (line_record line)) result output.new }
 {
     let answer = Answer {
         number: 20,
@@ -101,7 +101,7 @@ fn answer_lines(
     work: &mut [u32],
     output: &mut [u8],
 ) -> usize
-    requires input_len_bound { length input.now ≤ longestInput }
+    requires input_len_bound { length input.now ≤ longest_input }
     requires roomy { Roomy (length message.old) (length words.old) (length literals.old) (length work.old) (length output.old) }
     ensures { responded (Written result) (lent message.new words.new literals.new work.new output.new) ≡ respond input.now (lent message.old words.old literals.old work.old output.old) }
 {

@@ -2,13 +2,13 @@
 ghost use Rattle.std.specs.Prelude.{◌≡◌};
 ghost use Rattle.text.specs.Stored.{Wrote};
 ghost use Rattle.grammar.specs.declared.Value.TheVariants as Val;
-ghost use Rattle.console_text.specs.Printed.{numberLine, boolText, integerText, textText, valueText, valueLine, numberLines, valueLines, answerLines};
+ghost use Rattle.console_text.specs.Printed.{number_line, bool_text, integer_text, text_text, value_text, value_line, number_lines, value_lines, answer_lines};
 
 use grammar::{Answer, Value};
 
 // "each line ended by byte 10"
 fn put_number_line(output: &mut [u8], at: usize, key: &[u8], n: u32) -> usize
-    ensures { Wrote output.old at (numberLine key.now n) result output.new }
+    ensures { Wrote output.old at (number_line key.now n) result output.new }
 {
     let a = text::put_bytes(output, at, key);
     let b = text::put_decimal(output, a, n);
@@ -16,7 +16,7 @@ fn put_number_line(output: &mut [u8], at: usize, key: &[u8], n: u32) -> usize
 }
 
 fn put_bool(output: &mut [u8], at: usize, truth: bool) -> usize
-    ensures { Wrote output.old at (boolText truth) result output.new }
+    ensures { Wrote output.old at (bool_text truth) result output.new }
 {
     if truth {
         return text::put_bytes(output, at, b"1 1");
@@ -25,7 +25,7 @@ fn put_bool(output: &mut [u8], at: usize, truth: bool) -> usize
 }
 
 fn put_integer(output: &mut [u8], at: usize, n: i32) -> usize
-    ensures { Wrote output.old at (integerText n) result output.new }
+    ensures { Wrote output.old at (integer_text n) result output.new }
 {
     let next = text::put_bytes(output, at, b"2 ");
     text::put_signed(output, next, n)
@@ -33,7 +33,7 @@ fn put_integer(output: &mut [u8], at: usize, n: i32) -> usize
 
 // "hex (nothing after `3` if empty)"
 fn put_text(output: &mut [u8], at: usize, bytes: &[u8]) -> usize
-    ensures { Wrote output.old at (textText bytes.now) result output.new }
+    ensures { Wrote output.old at (text_text bytes.now) result output.new }
 {
     if bytes.len() == 0 {
         return text::put(output, at, 51);
@@ -50,7 +50,7 @@ fn put_value<'a>(
     literals: &'a [u8],
     value: Value,
 ) -> usize
-    ensures { Wrote output.old at (valueText message.now literals.now value) result output.new }
+    ensures { Wrote output.old at (value_text message.now literals.now value) result output.new }
 {
     match value {
         Value::Absent => text::put(output, at, 48),
@@ -71,7 +71,7 @@ fn put_value_line<'a>(
     literals: &'a [u8],
     value: Value,
 ) -> usize
-    ensures { Wrote output.old at (valueLine message.now literals.now value) result output.new }
+    ensures { Wrote output.old at (value_line message.now literals.now value) result output.new }
 {
     let a = text::put_bytes(output, at, b"value=");
     let b = put_value(output, a, message, literals, value);
@@ -79,7 +79,7 @@ fn put_value_line<'a>(
 }
 
 fn put_numbers(output: &mut [u8], at: usize, answer: Answer) -> usize
-    ensures { Wrote output.old at (numberLines answer) result output.new }
+    ensures { Wrote output.old at (number_lines answer) result output.new }
 {
     let a = put_number_line(output, at, b"answer=", answer.number);
     let b = put_number_line(output, a, b"place=", answer.place);
@@ -94,7 +94,7 @@ fn put_values<'a>(
     literals: &'a [u8],
     answer: Answer,
 ) -> usize
-    ensures { Wrote output.old at (valueLines message.now literals.now answer) result output.new }
+    ensures { Wrote output.old at (value_lines message.now literals.now answer) result output.new }
 {
     let value0 = answer.value0;
     let value1 = answer.value1;
@@ -114,7 +114,7 @@ pub(crate) fn put_answer<'a>(
     literals: &'a [u8],
     answer: Answer,
 ) -> usize
-    ensures { Wrote output.old at (answerLines message.now literals.now answer) result output.new }
+    ensures { Wrote output.old at (answer_lines message.now literals.now answer) result output.new }
 {
     let next = put_numbers(output, at, answer);
     put_values(output, next, message, literals, answer)

@@ -2,9 +2,9 @@
 ghost use Rattle.std.specs.Prelude.{◌≡◌, ◌≤◌, length};
 ghost use Rattle.text.specs.Stored.{Took};
 ghost use Rattle.text.specs.declared.Bytes.TheVariants.{Are};
-ghost use Rattle.console_text.specs.Asked.{modeLine, budgetAt, messageAt, fromFourth, said};
-ghost use Rattle.console_text.specs.Console.{longestInput};
-ghost use Rattle.console_text.specs.Lent.{messageBytes, tableWords, tableLiterals, readied, ready};
+ghost use Rattle.console_text.specs.Asked.{mode_line, budget_at, message_at, from_fourth, said};
+ghost use Rattle.console_text.specs.Console.{longest_input};
+ghost use Rattle.console_text.specs.Lent.{message_bytes, table_words, table_literals, readied, ready};
 
 use grammar::Mode;
 use listing::Reading;
@@ -26,7 +26,7 @@ pub enum Request {
 
 // "`mode=` (bench or display)"
 fn read_mode(input: &[u8]) -> ModeLine
-    ensures { result ≡ modeLine input.now }
+    ensures { result ≡ mode_line input.now }
 {
     if let Place::At(p) = text::after_key(input, 0, b"mode=bench\n") {
         return ModeLine::Is(Mode::Bench, p);
@@ -39,7 +39,7 @@ fn read_mode(input: &[u8]) -> ModeLine
 
 // "Budget is a decimal up to 4294967295, no leading zero"
 fn read_budget(input: &[u8], at: usize) -> Number
-    ensures { result ≡ budgetAt input.now at }
+    ensures { result ≡ budget_at input.now at }
 {
     let Place::At(p) = text::after_key(input, at, b"budget=") else {
         return Number::Wrong;
@@ -49,7 +49,7 @@ fn read_budget(input: &[u8], at: usize) -> Number
 
 // "`message=` (hex)"
 fn read_message(input: &[u8], at: usize, message: &mut [u8]) -> Bytes
-    ensures { Took (messageAt input.now at) message.old 0 result message.new }
+    ensures { Took (message_at input.now at) message.old 0 result message.new }
 {
     let Place::At(p) = text::after_key(input, at, b"message=") else {
         return Bytes::Wrong;
@@ -70,9 +70,9 @@ fn read_listing(
     words: &mut [u16],
     literals: &mut [u8],
 ) -> Request
-    requires input_len_bound { (length input.now ≤ longestInput) × ((messageBytes ≤ length message.old) × ((tableWords ≤ length words.old) × (tableLiterals ≤ length literals.old))) }
-    requires from_value { (messageAt input.now from).found ≡ Are bytes at }
-    ensures { readied result message.new words.new literals.new ≡ ready (fromFourth input.now mode budget (messageAt input.now from).numbers at) message.old words.old literals.old }
+    requires input_len_bound { (length input.now ≤ longest_input) × ((message_bytes ≤ length message.old) × ((table_words ≤ length words.old) × (table_literals ≤ length literals.old))) }
+    requires from_value { (message_at input.now from).found ≡ Are bytes at }
+    ensures { readied result message.new words.new literals.new ≡ ready (from_fourth input.now mode budget (message_at input.now from).numbers at) message.old words.old literals.old }
 {
     match listing::read_from(input, at, 4, words, literals) {
         Reading::Done(word_count, literal_count) => {
@@ -91,7 +91,7 @@ pub(crate) fn read_request(
     words: &mut [u16],
     literals: &mut [u8],
 ) -> Request
-    requires { (length input.now ≤ longestInput) × ((messageBytes ≤ length message.old) × ((tableWords ≤ length words.old) × (tableLiterals ≤ length literals.old))) }
+    requires { (length input.now ≤ longest_input) × ((message_bytes ≤ length message.old) × ((table_words ≤ length words.old) × (table_literals ≤ length literals.old))) }
     ensures { readied result message.new words.new literals.new ≡ ready (said input.now) message.old words.old literals.old }
 {
     let ModeLine::Is(mode, a) = read_mode(input) else {

@@ -11,11 +11,11 @@ use Rattle.grammar.specs.declared.Value.{Value}
 use Rattle.grammar.specs.declared.Value.TheVariants as Val
 use Rattle.grammar.specs.Answer.{number, place}
 use Rattle.values.specs.Words.{word_of}
-use Rattle.values.specs.Slots.{tag_of, payloadOf}
+use Rattle.values.specs.Slots.{tag_of, payload_of}
 use Rattle.listing.specs.declared.Reading.TheVariants as R
 use Rattle.listing.specs.declared.Writing.TheVariants as W
-use Rattle.listing.specs.Answers.{readingNumber, readingPlace, readingWords, readingLiterals, writingNumber, writingPlace, writingLength}
-use Rattle.exports.specs.Boundary.{verdictWord, withRecord, withReading, withWriting, partWord}
+use Rattle.listing.specs.Answers.{reading_number, reading_place, reading_words, reading_literals, writing_number, writing_place, writing_length}
+use Rattle.exports.specs.Boundary.{verdict_word, with_record, with_reading, with_writing, part_word}
 
 -- lent slices: other numbers stand in them
 abbrev lent : ℕ → List ℕ
@@ -23,9 +23,9 @@ lent n = replicate n 9
 
 -- 'Numbers that come back': 0 passed, 1 SIZE, 2 FIELD at word 7, 3 USE of node 3, 4 START, 5 TYPE of rule 2, 6 LONG, 7 WORK
 pub verdicts :
-    map verdictWord (Ver.Passed ∷ Ver.Size ∷ Ver.Field 7 ∷ Ver.Use 3 ∷ Ver.Start ∷ Ver.Untyped 2 ∷ Ver.Long ∷ Ver.Work ∷ [])
+    map verdict_word (Ver.Passed ∷ Ver.Size ∷ Ver.Field 7 ∷ Ver.Use 3 ∷ Ver.Start ∷ Ver.Untyped 2 ∷ Ver.Long ∷ Ver.Work ∷ [])
     ≡ 0 ∷ 65536 ∷ 131079 ∷ 196611 ∷ 262144 ∷ 327682 ∷ 393216 ∷ 458752 ∷ []
-unfolding verdictWord number place
+unfolding verdict_word number place
 verdicts = refl
 
 abbrev text : (literal : Bool) (start length : ℕ) → Value
@@ -47,28 +47,28 @@ answer =
 
 -- in a slice of two words more, which stay; in one of two words
 pub records :
-    map (λ (l : List ℕ). withRecord l answer) (lent 14 ∷ lent 2 ∷ [])
+    map (λ (l : List ℕ). with_record l answer) (lent 14 ∷ lent 2 ∷ [])
     ≡ (1 ∷ 2 ∷ 3 ∷ 4 ∷ 1 ∷ 1 ∷ 2 ∷ 4294967293 ∷ 3 ∷ 327686 ∷ 4 ∷ 458760 ∷ lent 2) ∷ (1 ∷ 2 ∷ []) ∷ []
-unfolding withRecord tag_of payloadOf word_of
+unfolding with_record tag_of payload_of word_of
 records = refl
 
 -- DONE with both lengths, LINE with its number, ROOM
 pub readings :
-    map (withReading (lent 5)) (R.Done 5 6 ∷ R.Line 7 ∷ R.Room ∷ [])
+    map (with_reading (lent 5)) (R.Done 5 6 ∷ R.Line 7 ∷ R.Room ∷ [])
     ≡ (0 ∷ 0 ∷ 5 ∷ 6 ∷ 9 ∷ []) ∷ (20 ∷ 7 ∷ 0 ∷ 0 ∷ 9 ∷ []) ∷ (21 ∷ 0 ∷ 0 ∷ 0 ∷ 9 ∷ []) ∷ []
-unfolding withReading readingNumber readingPlace readingWords readingLiterals
+unfolding with_reading reading_number reading_place reading_words reading_literals
 readings = refl
 
 -- DONE with its length, SIZE, OUT
 pub writings :
-    map (withWriting (lent 5)) (W.Done 5 ∷ W.Size ∷ W.Out ∷ [])
+    map (with_writing (lent 5)) (W.Done 5 ∷ W.Size ∷ W.Out ∷ [])
     ≡ (0 ∷ 0 ∷ 5 ∷ 0 ∷ 9 ∷ []) ∷ (1 ∷ 0 ∷ 0 ∷ 0 ∷ 9 ∷ []) ∷ (22 ∷ 0 ∷ 0 ∷ 0 ∷ 9 ∷ []) ∷ []
-unfolding withWriting writingNumber writingPlace writingLength
+unfolding with_writing writing_number writing_place writing_length
 writings = refl
 
 -- in a message of 20 bytes and literals of 10: absent and other values; parts that just fit; parts that end a byte too far
 pub parts :
-    map (partWord 20 10)
+    map (part_word 20 10)
     (Val.Absent
     ∷ Val.Bool true
     ∷ Val.Integer (pos 5)
@@ -78,5 +78,5 @@ pub parts :
     ∷ text true 7 4
     ∷ [])
     ≡ 0 ∷ 0 ∷ 0 ∷ 327695 ∷ 4295426051 ∷ 0 ∷ 0 ∷ []
-unfolding partWord
+unfolding part_word
 parts = refl

@@ -10,13 +10,13 @@ use Rattle.grammar.specs.contracts.Value.{the_type}
 use Rattle.grammar.specs.declared.Span.{Span}
 use Rattle.grammar.specs.declared.Value.{Value}
 use Rattle.grammar.specs.declared.Value.TheVariants as Val
-use Rattle.exports.specs.Boundary.{partWord}
+use Rattle.exports.specs.Boundary.{part_word}
 
 abbrev others : List ℕ
 others = 0 ∷ 1 ∷ 2 ∷ []
 
-pub no_part : (message literals : ℕ) (v : Value) → OneOf others (tag_of the_type v) → 0 ≡ partWord message literals v
-unfolding partWord
+pub no_part : (message literals : ℕ) (v : Value) → OneOf others (tag_of the_type v) → 0 ≡ part_word message literals v
+unfolding part_word
 no_part message literals Val.Absent h = refl
 no_part message literals (Val.Bool b) h = refl
 no_part message literals (Val.Integer z) h = refl
@@ -26,10 +26,10 @@ module _ (message literals : ℕ) (s : Span) where
   abbrev within : ℕ → ℕ
   within slice = cond (leb (s.start + s.length) slice) (cond s.literal 4294967296 0 + s.start * 65536 + s.length) 0
 
-  pub in-literals : s.literal ≡ true → within literals ≡ partWord message literals (Val.Text s)
-  unfolding partWord
-  in-literals e = rw e
+  pub in_literals : s.literal ≡ true → within literals ≡ part_word message literals (Val.Text s)
+  unfolding part_word
+  in_literals e = rw e
 
-  pub in-message : s.literal ≡ false → within message ≡ partWord message literals (Val.Text s)
-  unfolding partWord
-  in-message e = rw e
+  pub in_message : s.literal ≡ false → within message ≡ part_word message literals (Val.Text s)
+  unfolding part_word
+  in_message e = rw e

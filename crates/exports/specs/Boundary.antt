@@ -5,44 +5,44 @@ use Rattle.grammar.specs.declared.Answer.{Answer}
 use Rattle.grammar.specs.declared.Value.{Value}
 use Rattle.grammar.specs.declared.Value.TheVariants as Val
 use Rattle.grammar.specs.Answer.{number, place}
-use Rattle.values.specs.Slots.{withSlot}
+use Rattle.values.specs.Slots.{with_slot}
 use Rattle.listing.specs.declared.Reading.{Reading}
 use Rattle.listing.specs.declared.Writing.{Writing}
-use Rattle.listing.specs.Answers.{readingNumber, readingPlace, readingWords, readingLiterals, writingNumber, writingPlace, writingLength}
+use Rattle.listing.specs.Answers.{reading_number, reading_place, reading_words, reading_literals, writing_number, writing_place, writing_length}
 
 -- the version of all this: one more wherever a function's parameters, an answer's words or the meaning of a number change
 abbrev pub version : ℕ
 version = 1
 
 -- a check's answer: 65536 times its number, and its place
-unfoldable pub verdictWord : Verdict → ℕ
-verdictWord v = number v * 65536 + place v
+unfoldable pub verdict_word : Verdict → ℕ
+verdict_word v = number v * 65536 + place v
 
 -- the answer record as twelve words: number, place, consumed, visits; then each value's tag and payload, as slots 2 to 5 (docs/WORK.md)
-unfoldable pub withRecord : List ℕ → Answer → List ℕ
-withRecord words a =
+unfoldable pub with_record : List ℕ → Answer → List ℕ
+with_record words a =
     let head = set (set (set (set words 0 a.number) 1 a.place) 2 a.consumed) 3 a.visits in
-    withSlot (withSlot (withSlot (withSlot head 2 a.value0) 3 a.value1) 4 a.value2) 5 a.value3
+    with_slot (with_slot (with_slot (with_slot head 2 a.value0) 3 a.value1) 4 a.value2) 5 a.value3
 
 -- four words in a row
-abbrev pub withFour : List ℕ → (a b c d : ℕ) → List ℕ
-withFour words a b c d = set (set (set (set words 0 a) 1 b) 2 c) 3 d
+abbrev pub with_four : List ℕ → (a b c d : ℕ) → List ℕ
+with_four words a b c d = set (set (set (set words 0 a) 1 b) 2 c) 3 d
 
 -- the listing reader's answer: number, line, words, literals
-unfoldable pub withReading : List ℕ → Reading → List ℕ
-withReading answer r = withFour answer (readingNumber r) (readingPlace r) (readingWords r) (readingLiterals r)
+unfoldable pub with_reading : List ℕ → Reading → List ℕ
+with_reading answer r = with_four answer (reading_number r) (reading_place r) (reading_words r) (reading_literals r)
 
 -- the listing writer's answer: number, place, length, 0
-unfoldable pub withWriting : List ℕ → Writing → List ℕ
-withWriting answer w = withFour answer (writingNumber w) (writingPlace w) (writingLength w) 0
+unfoldable pub with_writing : List ℕ → Writing → List ℕ
+with_writing answer w = with_four answer (writing_number w) (writing_place w) (writing_length w) 0
 
 -- where a value's bytes stand, in a message and literals of these lengths: 4294967296 for the literals, 65536 times the start, and the length;
 -- 0, an empty part at the start of the message, for an absent or other value and for a part that doesn't fit
-unfoldable pub partWord : (message literals : ℕ) → Value → ℕ
-partWord message literals Val.Absent = 0
-partWord message literals (Val.Bool b) = 0
-partWord message literals (Val.Integer z) = 0
-partWord message literals (Val.Text s) =
+unfoldable pub part_word : (message literals : ℕ) → Value → ℕ
+part_word message literals Val.Absent = 0
+part_word message literals (Val.Bool b) = 0
+part_word message literals (Val.Integer z) = 0
+part_word message literals (Val.Text s) =
     cond (leb (s.start + s.length) (cond s.literal literals message))
     (cond s.literal 4294967296 0 + s.start * 65536 + s.length)
     0

@@ -1,13 +1,13 @@
 // What crosses the boundary, as numbers and words.
 ghost use Rattle.std.specs.Prelude.{◌≡◌, cond, ◌+◌, ◌*◌, leb, set};
-ghost use Rattle.exports.specs.Boundary.{partWord, verdictWord, withFour, withReading, withRecord, withWriting};
+ghost use Rattle.exports.specs.Boundary.{part_word, verdict_word, with_four, with_reading, with_record, with_writing};
 
 use grammar::{Answer, Span, Value, Verdict};
 use listing::{Reading, Writing};
 use values::slots::{write_slot, write_word};
 
 pub(crate) fn verdict_word(verdict: Verdict) -> u32
-    ensures { result ≡ verdictWord verdict }
+    ensures { result ≡ verdict_word verdict }
 {
     match verdict {
         Verdict::Passed => 0,
@@ -22,7 +22,7 @@ pub(crate) fn verdict_word(verdict: Verdict) -> u32
 }
 
 fn put_head(words: &mut [u32], a: u32, b: u32, c: u32, d: u32)
-    ensures { words.new ≡ withFour words.old a b c d }
+    ensures { words.new ≡ with_four words.old a b c d }
 {
     write_word(words, 0, a);
     write_word(words, 1, b);
@@ -31,7 +31,7 @@ fn put_head(words: &mut [u32], a: u32, b: u32, c: u32, d: u32)
 }
 
 pub(crate) fn put_record(twelve: &mut [u32], answer: Answer)
-    ensures { twelve.new ≡ withRecord twelve.old answer }
+    ensures { twelve.new ≡ with_record twelve.old answer }
 {
     put_head(
         twelve,
@@ -59,7 +59,7 @@ fn put_long(words: &mut [u64], at: usize, word: u64)
 }
 
 fn put_four(words: &mut [u64], a: u64, b: u64, c: u64, d: u64)
-    ensures { words.new ≡ withFour words.old a b c d }
+    ensures { words.new ≡ with_four words.old a b c d }
 {
     put_long(words, 0, a);
     put_long(words, 1, b);
@@ -68,7 +68,7 @@ fn put_four(words: &mut [u64], a: u64, b: u64, c: u64, d: u64)
 }
 
 pub(crate) fn put_reading(answer: &mut [u64], reading: Reading)
-    ensures { answer.new ≡ withReading answer.old reading }
+    ensures { answer.new ≡ with_reading answer.old reading }
 {
     match reading {
         Reading::Done(words, literals) => put_four(answer, 0, 0, words as u64, literals as u64),
@@ -78,7 +78,7 @@ pub(crate) fn put_reading(answer: &mut [u64], reading: Reading)
 }
 
 pub(crate) fn put_writing(answer: &mut [u64], writing: Writing)
-    ensures { answer.new ≡ withWriting answer.old writing }
+    ensures { answer.new ≡ with_writing answer.old writing }
 {
     match writing {
         Writing::Done(length) => put_four(answer, 0, 0, length as u64, 0),
@@ -111,7 +111,7 @@ fn fitting_word(span: Span, slice: usize) -> u64
 }
 
 pub(crate) fn part_word(message: usize, literals: usize, value: Value) -> u64
-    ensures { result ≡ partWord message literals value }
+    ensures { result ≡ part_word message literals value }
 {
     match value {
         Value::Text(span) => {

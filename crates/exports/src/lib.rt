@@ -3,12 +3,12 @@ mod boundary;
 
 ghost use Rattle.std.specs.Prelude.{◌≡◌, length};
 ghost use Rattle.grammar.specs.declared.Mode.TheVariants.{Bench, Display};
-ghost use Rattle.grammar.specs.Form.{tableCheck};
-ghost use Rattle.grammar.specs.Answer.{answer, typeCheck, workAfter};
+ghost use Rattle.grammar.specs.Form.{table_check};
+ghost use Rattle.grammar.specs.Answer.{answer, type_check, work_after};
 ghost use Rattle.values.specs.Slots.{value_of};
 ghost use Rattle.listing.specs.Reading.{read};
 ghost use Rattle.listing.specs.Writing.{write};
-ghost use Rattle.exports.specs.Boundary.{partWord, verdictWord, version, withReading, withRecord, withWriting};
+ghost use Rattle.exports.specs.Boundary.{part_word, verdict_word, version, with_reading, with_record, with_writing};
 
 use crate::boundary::{part_word, put_reading, put_record, put_writing, verdict_word};
 
@@ -23,7 +23,7 @@ pub extern "C" fn styrmflo_version() -> u32
 // The checks 1 to 4: 65536 times the answer's number, and its place.
 #[unsafe(no_mangle)]
 pub extern "C" fn styrmflo_check(words: &[u16], literals: &[u8]) -> u32
-    ensures { result ≡ verdictWord (tableCheck words.now literals.now) }
+    ensures { result ≡ verdict_word (table_check words.now literals.now) }
 {
     verdict_word(form::check(words, literals))
 }
@@ -31,7 +31,7 @@ pub extern "C" fn styrmflo_check(words: &[u16], literals: &[u8]) -> u32
 // The checks 1 to 5: 65536 times the answer's number, and its place.
 #[unsafe(no_mangle)]
 pub extern "C" fn styrmflo_type_check(words: &[u16], literals: &[u8]) -> u32
-    ensures { result ≡ verdictWord (typeCheck words.now literals.now) }
+    ensures { result ≡ verdict_word (type_check words.now literals.now) }
 {
     verdict_word(typing::type_check(words, literals))
 }
@@ -46,8 +46,8 @@ pub extern "C" fn styrmflo_bench<'a>(
     work: &mut [u32],
     twelve: &mut [u32],
 )
-    ensures leaves { work.new ≡ workAfter Bench words.now literals.now message.now work.old }
-    ensures gives { twelve.new ≡ withRecord twelve.old (answer Bench words.now literals.now message.now budget (length work.old)) }
+    ensures leaves { work.new ≡ work_after Bench words.now literals.now message.now work.old }
+    ensures gives { twelve.new ≡ with_record twelve.old (answer Bench words.now literals.now message.now budget (length work.old)) }
 {
     let answer = runs::bench(words, literals, message, budget, work);
     put_record(twelve, answer);
@@ -63,8 +63,8 @@ pub extern "C" fn styrmflo_display<'a>(
     work: &mut [u32],
     twelve: &mut [u32],
 )
-    ensures leaves { work.new ≡ workAfter Display words.now literals.now message.now work.old }
-    ensures gives { twelve.new ≡ withRecord twelve.old (answer Display words.now literals.now message.now budget (length work.old)) }
+    ensures leaves { work.new ≡ work_after Display words.now literals.now message.now work.old }
+    ensures gives { twelve.new ≡ with_record twelve.old (answer Display words.now literals.now message.now budget (length work.old)) }
 {
     let answer = runs::display(words, literals, message, budget, work);
     put_record(twelve, answer);
@@ -80,7 +80,7 @@ pub extern "C" fn styrmflo_read(
 )
     ensures words { words.new ≡ (read text.now words.old literals.old).words }
     ensures literals { literals.new ≡ (read text.now words.old literals.old).literals }
-    ensures tells { answer.new ≡ withReading answer.old (read text.now words.old literals.old).answer }
+    ensures tells { answer.new ≡ with_reading answer.old (read text.now words.old literals.old).answer }
 {
     let reading = listing::read(text, words, literals);
     put_reading(answer, reading);
@@ -95,7 +95,7 @@ pub extern "C" fn styrmflo_write(
     answer: &mut [u64],
 )
     ensures text { text.new ≡ (write words.now literals.now text.old).text }
-    ensures tells { answer.new ≡ withWriting answer.old (write words.now literals.now text.old).answer }
+    ensures tells { answer.new ≡ with_writing answer.old (write words.now literals.now text.old).answer }
 {
     let writing = listing::write(words, literals, text);
     put_writing(answer, writing);
@@ -105,7 +105,7 @@ pub extern "C" fn styrmflo_write(
 // length. 0 is an empty part at the start of the message.
 #[unsafe(no_mangle)]
 pub extern "C" fn styrmflo_text(message: usize, literals: usize, tag: u32, payload: u32) -> u64
-    ensures { result ≡ partWord message literals (value_of tag payload) }
+    ensures { result ≡ part_word message literals (value_of tag payload) }
 {
     part_word(message, literals, values::slots::value_of(tag, payload))
 }

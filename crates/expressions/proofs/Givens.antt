@@ -19,13 +19,13 @@ use Rattle.grammar.specs.declared.Span.{Span}
 use Rattle.grammar.specs.declared.Value.{Value}
 use Rattle.grammar.specs.declared.Value.TheVariants as Val
 use Rattle.grammar.specs.Run.{Slots}
-use Rattle.grammar.specs.Values.{Evaluated, value, after, stuck, truth, number_at, present, wantInteger, wantBool, wantText, integers, sameInteger, sameTexts, equal, operate, negated}
+use Rattle.grammar.specs.Values.{Evaluated, value, after, stuck, truth, number_at, present, want_integer, want_bool, want_text, integers, same_integer, same_texts, equal, operate, negated}
 use Rattle.values.specs.Slots.{value_of, slot_at}
-use Rattle.values.specs.Words.{word_of, integerOf}
-use Rattle.values.proofs.Complement.{signed_is, integer-word}
-use Rattle.values.proofs.SlotList.{slot_read, slot-past, slot-among-first}
-use Rattle.expressions.specs.Meant.{ofIntegers}
-use Rattle.expressions.specs.Given.{given_of, integerTags, textTag, span_of, operatorOf, leafOf}
+use Rattle.values.specs.Words.{word_of, integer_of}
+use Rattle.values.proofs.Complement.{signed_is, integer_word}
+use Rattle.values.proofs.SlotList.{slot_read, slot_past, slot_among_first}
+use Rattle.expressions.specs.Meant.{of_integers}
+use Rattle.expressions.specs.Given.{given_of, integer_tags, text_tag, span_of, operator_of, leaf_of}
 
 -- ════ Small numbers, by cases ════
 
@@ -46,227 +46,227 @@ by_number P a b c d e f g h past (suc (suc (suc (suc (suc (suc (suc (suc n))))))
 
 -- ════ Ends and values ════
 
-pub stuck-is : (k : ℕ) → k < 65536 → ◌≡◌ {A = Evaluated Value} (given_of 5 k) (stuck k)
+pub stuck_is : (k : ℕ) → k < 65536 → ◌≡◌ {A = Evaluated Value} (given_of 5 k) (stuck k)
 unfolding given_of
-stuck-is k h = let e : k % 65536 ≡ k = omega arith in rw e
+stuck_is k h = let e : k % 65536 ≡ k = omega arith in rw e
 
-pub value-given : (tag payload : ℕ) → tag < 5 → given_of tag payload ≡ value (value_of tag payload)
+pub value_given : (tag payload : ℕ) → tag < 5 → given_of tag payload ≡ value (value_of tag payload)
 unfolding given_of value_of
-value-given tag payload = by_number (λ t. t < 5 → given_of t payload ≡ value (value_of t payload))
+value_given tag payload = by_number (λ t. t < 5 → given_of t payload ≡ value (value_of t payload))
     (λ _. refl) (λ _. refl) (λ _. refl) (λ _. refl) (λ _. refl) (λ h. absurd (omega arith)) (λ h. absurd (omega arith)) (λ h. absurd (omega arith)) (λ n h. absurd (omega arith)) tag
 
-pub end-given : (tag payload : ℕ) (f : Value → Evaluated Value) → 5 ≤ tag → given_of tag payload ≡ after (given_of tag payload) f
+pub end_given : (tag payload : ℕ) (f : Value → Evaluated Value) → 5 ≤ tag → given_of tag payload ≡ after (given_of tag payload) f
 unfolding given_of
-end-given tag payload f = by_number (λ t. 5 ≤ t → given_of t payload ≡ after (given_of t payload) f)
+end_given tag payload f = by_number (λ t. 5 ≤ t → given_of t payload ≡ after (given_of t payload) f)
     (λ h. absurd (omega arith)) (λ h. absurd (omega arith)) (λ h. absurd (omega arith)) (λ h. absurd (omega arith)) (λ h. absurd (omega arith)) (λ _. refl) (λ _. refl) (λ _. refl) (λ n h. refl) tag
 
 -- 5 and what has no line
-pub stuck-given : (tag payload : ℕ) → 5 ≤ tag → (tag ≡ 6 → ⊥) → (tag ≡ 7 → ⊥) → ◌≡◌ {A = Evaluated Value} (stuck (payload % 65536)) (given_of tag payload)
+pub stuck_given : (tag payload : ℕ) → 5 ≤ tag → (tag ≡ 6 → ⊥) → (tag ≡ 7 → ⊥) → ◌≡◌ {A = Evaluated Value} (stuck (payload % 65536)) (given_of tag payload)
 unfolding given_of
-stuck-given tag payload = by_number (λ t. 5 ≤ t → (t ≡ 6 → ⊥) → (t ≡ 7 → ⊥) → ◌≡◌ {A = Evaluated Value} (stuck (payload % 65536)) (given_of t payload))
+stuck_given tag payload = by_number (λ t. 5 ≤ t → (t ≡ 6 → ⊥) → (t ≡ 7 → ⊥) → ◌≡◌ {A = Evaluated Value} (stuck (payload % 65536)) (given_of t payload))
     (λ h. absurd (omega arith)) (λ h. absurd (omega arith)) (λ h. absurd (omega arith)) (λ h. absurd (omega arith)) (λ h. absurd (omega arith)) (λ h a b. refl) (λ h a b. absurd (a refl)) (λ h a b. absurd (b refl)) (λ n h a b. refl) tag
 
 -- ════ Values of another type ════
 
-pub no-integer : (k tag payload : ℕ) (f : ℤ → Evaluated Value) → (tag ≡ 2 → ⊥) → stuck k ≡ wantInteger k (value_of tag payload) f
+pub no_integer : (k tag payload : ℕ) (f : ℤ → Evaluated Value) → (tag ≡ 2 → ⊥) → stuck k ≡ want_integer k (value_of tag payload) f
 unfolding value_of
-no-integer k tag payload f = by_number (λ t. (t ≡ 2 → ⊥) → stuck k ≡ wantInteger k (value_of t payload) f)
+no_integer k tag payload f = by_number (λ t. (t ≡ 2 → ⊥) → stuck k ≡ want_integer k (value_of t payload) f)
     (λ _. refl) (λ _. refl) (λ h. absurd (h refl)) (λ _. refl) (λ _. refl) (λ _. refl) (λ _. refl) (λ _. refl) (λ n _. refl) tag
 
-pub no_bool : (k tag payload : ℕ) (f : Bool → Evaluated Value) → (tag ≡ 1 → ⊥) → stuck k ≡ wantBool k (value_of tag payload) f
+pub no_bool : (k tag payload : ℕ) (f : Bool → Evaluated Value) → (tag ≡ 1 → ⊥) → stuck k ≡ want_bool k (value_of tag payload) f
 unfolding value_of
-no_bool k tag payload f = by_number (λ t. (t ≡ 1 → ⊥) → stuck k ≡ wantBool k (value_of t payload) f)
+no_bool k tag payload f = by_number (λ t. (t ≡ 1 → ⊥) → stuck k ≡ want_bool k (value_of t payload) f)
     (λ _. refl) (λ h. absurd (h refl)) (λ _. refl) (λ _. refl) (λ _. refl) (λ _. refl) (λ _. refl) (λ _. refl) (λ n _. refl) tag
 
-no_text : (k tag payload : ℕ) (f : Span → Evaluated Value) → textTag tag ≡ false → stuck k ≡ wantText k (value_of tag payload) f
+no_text : (k tag payload : ℕ) (f : Span → Evaluated Value) → text_tag tag ≡ false → stuck k ≡ want_text k (value_of tag payload) f
 unfolding value_of
-no_text k tag payload f = by_number (λ t. textTag t ≡ false → stuck k ≡ wantText k (value_of t payload) f)
+no_text k tag payload f = by_number (λ t. text_tag t ≡ false → stuck k ≡ want_text k (value_of t payload) f)
     (λ _. refl) (λ _. refl) (λ _. refl) (λ h. never (sym h)) (λ h. never (sym h)) (λ _. refl) (λ _. refl) (λ _. refl) (λ n _. refl) tag
 
-text-past : (tag : ℕ) → 5 ≤ tag → textTag tag ≡ false
-text-past tag h = rw (le-ltb tag 3 (omega arith), le-ltb tag 5 h)
+text_past : (tag : ℕ) → 5 ≤ tag → text_tag tag ≡ false
+text_past tag h = rw (le-ltb tag 3 (omega arith), le-ltb tag 5 h)
 
-a-text : (tag payload : ℕ) → textTag tag ≡ true → value_of tag payload ≡ Val.Text (span_of tag payload)
+a_text : (tag payload : ℕ) → text_tag tag ≡ true → value_of tag payload ≡ Val.Text (span_of tag payload)
 unfolding value_of
-a-text tag payload = by_number (λ t. textTag t ≡ true → value_of t payload ≡ Val.Text (span_of t payload))
-    never never never (λ _. refl) (λ _. refl) never never never (λ n h. never (sym (text-past (eight n) (omega arith)) ∙ h)) tag
+a_text tag payload = by_number (λ t. text_tag t ≡ true → value_of t payload ≡ Val.Text (span_of t payload))
+    never never never (λ _. refl) (λ _. refl) never never never (λ n h. never (sym (text_past (eight n) (omega arith)) ∙ h)) tag
 
 -- ════ Equal ════
 
 module _ (m l : List ℕ) (k vt vp wt wp : ℕ) where
-  pub equal-integers : vt ≡ 2 → wt ≡ 2 → truth (sameInteger (integerOf vp) (integerOf wp)) ≡ equal m l k (value_of vt vp) (value_of wt wp)
+  pub equal_integers : vt ≡ 2 → wt ≡ 2 → truth (same_integer (integer_of vp) (integer_of wp)) ≡ equal m l k (value_of vt vp) (value_of wt wp)
   unfolding value_of equal
-  equal-integers e f = rw (e, f)
+  equal_integers e f = rw (e, f)
 
-  pub equal-no-integer : vt ≡ 2 → (wt ≡ 2 → ⊥) → stuck k ≡ equal m l k (value_of vt vp) (value_of wt wp)
+  pub equal_no_integer : vt ≡ 2 → (wt ≡ 2 → ⊥) → stuck k ≡ equal m l k (value_of vt vp) (value_of wt wp)
   unfolding value_of equal
-  equal-no-integer e f = rw e (no-integer k wt wp _ f)
+  equal_no_integer e f = rw e (no_integer k wt wp _ f)
 
-  pub equal-bools : vt ≡ 1 → wt ≡ 1 → truth (beq (eqb vp 1) (eqb wp 1)) ≡ equal m l k (value_of vt vp) (value_of wt wp)
+  pub equal_bools : vt ≡ 1 → wt ≡ 1 → truth (beq (eqb vp 1) (eqb wp 1)) ≡ equal m l k (value_of vt vp) (value_of wt wp)
   unfolding value_of equal
-  equal-bools e f = rw (e, f)
+  equal_bools e f = rw (e, f)
 
-  pub equal-no-bool : vt ≡ 1 → (wt ≡ 1 → ⊥) → stuck k ≡ equal m l k (value_of vt vp) (value_of wt wp)
+  pub equal_no_bool : vt ≡ 1 → (wt ≡ 1 → ⊥) → stuck k ≡ equal m l k (value_of vt vp) (value_of wt wp)
   unfolding value_of equal
-  equal-no-bool e f = rw e (no_bool k wt wp _ f)
+  equal_no_bool e f = rw e (no_bool k wt wp _ f)
 
-  pub equal-texts : textTag vt ≡ true → textTag wt ≡ true → truth (sameTexts m l (span_of vt vp) (span_of wt wp)) ≡ equal m l k (value_of vt vp) (value_of wt wp)
+  pub equal_texts : text_tag vt ≡ true → text_tag wt ≡ true → truth (same_texts m l (span_of vt vp) (span_of wt wp)) ≡ equal m l k (value_of vt vp) (value_of wt wp)
   unfolding equal
-  equal-texts e f = rw (a-text vt vp e, a-text wt wp f)
+  equal_texts e f = rw (a_text vt vp e, a_text wt wp f)
 
-  pub equal-no-text : textTag vt ≡ true → textTag wt ≡ false → stuck k ≡ equal m l k (value_of vt vp) (value_of wt wp)
+  pub equal_no_text : text_tag vt ≡ true → text_tag wt ≡ false → stuck k ≡ equal m l k (value_of vt vp) (value_of wt wp)
   unfolding equal
-  equal-no-text e f = rw (a-text vt vp e) (no_text k wt wp _ f)
+  equal_no_text e f = rw (a_text vt vp e) (no_text k wt wp _ f)
 
-pub equal-none : (m l : List ℕ) (k vt vp : ℕ) (w : Value) → (vt ≡ 2 → ⊥) → (vt ≡ 1 → ⊥) → textTag vt ≡ false → stuck k ≡ equal m l k (value_of vt vp) w
+pub equal_none : (m l : List ℕ) (k vt vp : ℕ) (w : Value) → (vt ≡ 2 → ⊥) → (vt ≡ 1 → ⊥) → text_tag vt ≡ false → stuck k ≡ equal m l k (value_of vt vp) w
 unfolding value_of equal
-equal-none m l k vt vp w = by_number (λ t. (t ≡ 2 → ⊥) → (t ≡ 1 → ⊥) → textTag t ≡ false → stuck k ≡ equal m l k (value_of t vp) w)
+equal_none m l k vt vp w = by_number (λ t. (t ≡ 2 → ⊥) → (t ≡ 1 → ⊥) → text_tag t ≡ false → stuck k ≡ equal m l k (value_of t vp) w)
     (λ a b c. refl) (λ a b c. absurd (b refl)) (λ a b c. absurd (a refl)) (λ a b c. never (sym c)) (λ a b c. never (sym c)) (λ a b c. refl) (λ a b c. refl) (λ a b c. refl)
     (λ n a b c. refl) vt
 
 -- ════ Operators by number ════
 
-pub not-of-integers : (j k : ℕ) (a b : ℤ) → (j ≡ 0 → ⊥) → (j ≡ 1 → ⊥) → (j ≡ 2 → ⊥) → (j ≡ 3 → ⊥) → (j ≡ 5 → ⊥) → stuck k ≡ ofIntegers (operatorOf j) k a b
-unfolding operatorOf ofIntegers
-not-of-integers j k a b = by_number (λ i. (i ≡ 0 → ⊥) → (i ≡ 1 → ⊥) → (i ≡ 2 → ⊥) → (i ≡ 3 → ⊥) → (i ≡ 5 → ⊥) → stuck k ≡ ofIntegers (operatorOf i) k a b)
+pub not_of_integers : (j k : ℕ) (a b : ℤ) → (j ≡ 0 → ⊥) → (j ≡ 1 → ⊥) → (j ≡ 2 → ⊥) → (j ≡ 3 → ⊥) → (j ≡ 5 → ⊥) → stuck k ≡ of_integers (operator_of j) k a b
+unfolding operator_of of_integers
+not_of_integers j k a b = by_number (λ i. (i ≡ 0 → ⊥) → (i ≡ 1 → ⊥) → (i ≡ 2 → ⊥) → (i ≡ 3 → ⊥) → (i ≡ 5 → ⊥) → stuck k ≡ of_integers (operator_of i) k a b)
     (λ n0 n1 n2 n3 n5. absurd (n0 refl)) (λ n0 n1 n2 n3 n5. absurd (n1 refl)) (λ n0 n1 n2 n3 n5. absurd (n2 refl)) (λ n0 n1 n2 n3 n5. absurd (n3 refl)) (λ n0 n1 n2 n3 n5. refl)
     (λ n0 n1 n2 n3 n5. absurd (n5 refl)) (λ n0 n1 n2 n3 n5. refl) (λ n0 n1 n2 n3 n5. refl) (λ n n0 n1 n2 n3 n5. refl) j
 
 module _ (m l : List ℕ) (k : ℕ) where
   -- arithmetic and greater
-  on_integers : (j : ℕ) (v w : Value) → (j ≡ 4 → ⊥) → j < 6 → integers k v w (ofIntegers (operatorOf j) k) ≡ operate m l (operatorOf j) k v w
-  unfolding operatorOf operate ofIntegers
-  on_integers j v w = by_number (λ i. (i ≡ 4 → ⊥) → i < 6 → integers k v w (ofIntegers (operatorOf i) k) ≡ operate m l (operatorOf i) k v w)
+  on_integers : (j : ℕ) (v w : Value) → (j ≡ 4 → ⊥) → j < 6 → integers k v w (of_integers (operator_of j) k) ≡ operate m l (operator_of j) k v w
+  unfolding operator_of operate of_integers
+  on_integers j v w = by_number (λ i. (i ≡ 4 → ⊥) → i < 6 → integers k v w (of_integers (operator_of i) k) ≡ operate m l (operator_of i) k v w)
       (λ a h. refl) (λ a h. refl) (λ a h. refl) (λ a h. refl) (λ a h. absurd (a refl)) (λ a h. refl) (λ a h. absurd (omega arith)) (λ a h. absurd (omega arith))
       (λ n a h. absurd (omega arith)) j
 
   -- and, or
-  on_bool : (j : ℕ) (v w : Value) → 6 ≤ j → wantBool k w truth ≡ operate m l (operatorOf j) k v w
-  unfolding operatorOf operate
-  on_bool j v w = by_number (λ i. 6 ≤ i → wantBool k w truth ≡ operate m l (operatorOf i) k v w)
+  on_bool : (j : ℕ) (v w : Value) → 6 ≤ j → want_bool k w truth ≡ operate m l (operator_of j) k v w
+  unfolding operator_of operate
+  on_bool j v w = by_number (λ i. 6 ≤ i → want_bool k w truth ≡ operate m l (operator_of i) k v w)
       (λ h. absurd (omega arith)) (λ h. absurd (omega arith)) (λ h. absurd (omega arith)) (λ h. absurd (omega arith)) (λ h. absurd (omega arith)) (λ h. absurd (omega arith)) (λ _. refl) (λ _. refl) (λ n _. refl) j
 
   -- every operator but equal, at two Integers
-  at-integers : (j : ℕ) (a b : ℤ) → (j ≡ 4 → ⊥) → ofIntegers (operatorOf j) k a b ≡ operate m l (operatorOf j) k (Val.Integer a) (Val.Integer b)
-  unfolding operatorOf operate ofIntegers
-  at-integers j a b = by_number (λ i. (i ≡ 4 → ⊥) → ofIntegers (operatorOf i) k a b ≡ operate m l (operatorOf i) k (Val.Integer a) (Val.Integer b))
+  at_integers : (j : ℕ) (a b : ℤ) → (j ≡ 4 → ⊥) → of_integers (operator_of j) k a b ≡ operate m l (operator_of j) k (Val.Integer a) (Val.Integer b)
+  unfolding operator_of operate of_integers
+  at_integers j a b = by_number (λ i. (i ≡ 4 → ⊥) → of_integers (operator_of i) k a b ≡ operate m l (operator_of i) k (Val.Integer a) (Val.Integer b))
       (λ _. refl) (λ _. refl) (λ _. refl) (λ _. refl) (λ other. absurd (other refl)) (λ _. refl) (λ _. refl) (λ _. refl) (λ n _. refl) j
 
-  pub operate-equal : {j : ℕ} (v w : Value) → j ≡ 4 → equal m l k v w ≡ operate m l (operatorOf j) k v w
-  unfolding operatorOf operate
-  operate-equal v w e = rw e
+  pub operate_equal : {j : ℕ} (v w : Value) → j ≡ 4 → equal m l k v w ≡ operate m l (operator_of j) k v w
+  unfolding operator_of operate
+  operate_equal v w e = rw e
 
-  pub operate-bool : (j : ℕ) (v : Value) (wt wp : ℕ) → 6 ≤ j → wt ≡ 1 → given_of 1 wp ≡ operate m l (operatorOf j) k v (value_of wt wp)
+  pub operate_bool : (j : ℕ) (v : Value) (wt wp : ℕ) → 6 ≤ j → wt ≡ 1 → given_of 1 wp ≡ operate m l (operator_of j) k v (value_of wt wp)
   unfolding given_of value_of
-  operate-bool j v wt wp h e = rw e (on_bool j v (Val.Bool (eqb wp 1)) h)
+  operate_bool j v wt wp h e = rw e (on_bool j v (Val.Bool (eqb wp 1)) h)
 
-  pub operate-no-bool : (j : ℕ) (v : Value) (wt wp : ℕ) → 6 ≤ j → (wt ≡ 1 → ⊥) → stuck k ≡ operate m l (operatorOf j) k v (value_of wt wp)
-  operate-no-bool j v wt wp h e = no_bool k wt wp truth e ∙ on_bool j v (value_of wt wp) h
+  pub operate_no_bool : (j : ℕ) (v : Value) (wt wp : ℕ) → 6 ≤ j → (wt ≡ 1 → ⊥) → stuck k ≡ operate m l (operator_of j) k v (value_of wt wp)
+  operate_no_bool j v wt wp h e = no_bool k wt wp truth e ∙ on_bool j v (value_of wt wp) h
 
   module _ (j vt vp wt wp : ℕ) (other : j ≡ 4 → ⊥) where
-    pub operate-integers : integerTags vt wt ≡ true → ofIntegers (operatorOf j) k (integerOf vp) (integerOf wp) ≡ operate m l (operatorOf j) k (value_of vt vp) (value_of wt wp)
+    pub operate_integers : integer_tags vt wt ≡ true → of_integers (operator_of j) k (integer_of vp) (integer_of wp) ≡ operate m l (operator_of j) k (value_of vt vp) (value_of wt wp)
     unfolding value_of
-    operate-integers both = by_left (eqb vt 2) refl
+    operate_integers both = by_left (eqb vt 2) refl
       where
-        by_left : (t : Bool) → eqb vt 2 ≡ t → ofIntegers (operatorOf j) k (integerOf vp) (integerOf wp) ≡ operate m l (operatorOf j) k (value_of vt vp) (value_of wt wp)
-        by_left true e = rw (eqb-true vt 2 e, eqb-true wt 2 (rw e at both)) (at-integers j (integerOf vp) (integerOf wp) other)
+        by_left : (t : Bool) → eqb vt 2 ≡ t → of_integers (operator_of j) k (integer_of vp) (integer_of wp) ≡ operate m l (operator_of j) k (value_of vt vp) (value_of wt wp)
+        by_left true e = rw (eqb-true vt 2 e, eqb-true wt 2 (rw e at both)) (at_integers j (integer_of vp) (integer_of wp) other)
         by_left false e = never (rw e at both)
 
-    pub operate-others : j < 6 → integerTags vt wt ≡ false → stuck k ≡ operate m l (operatorOf j) k (value_of vt vp) (value_of wt wp)
+    pub operate_others : j < 6 → integer_tags vt wt ≡ false → stuck k ≡ operate m l (operator_of j) k (value_of vt vp) (value_of wt wp)
     unfolding value_of
-    operate-others below off = by_left (eqb vt 2) refl
+    operate_others below off = by_left (eqb vt 2) refl
       where
-        by_left : (t : Bool) → eqb vt 2 ≡ t → stuck k ≡ operate m l (operatorOf j) k (value_of vt vp) (value_of wt wp)
+        by_left : (t : Bool) → eqb vt 2 ≡ t → stuck k ≡ operate m l (operator_of j) k (value_of vt vp) (value_of wt wp)
         by_left true e =
             rw (eqb-true vt 2 e)
-            (no-integer k wt wp (ofIntegers (operatorOf j) k (integerOf vp)) (eqb-false wt 2 (rw e at off)) ∙ on_integers j (Val.Integer (integerOf vp)) (value_of wt wp) other below)
-        by_left false e = no-integer k vt vp _ (eqb-false vt 2 e) ∙ on_integers j (value_of vt vp) (value_of wt wp) other below
+            (no_integer k wt wp (of_integers (operator_of j) k (integer_of vp)) (eqb-false wt 2 (rw e at off)) ∙ on_integers j (Val.Integer (integer_of vp)) (value_of wt wp) other below)
+        by_left false e = no_integer k vt vp _ (eqb-false vt 2 e) ∙ on_integers j (value_of vt vp) (value_of wt wp) other below
 
-pub negated-bool : (k payload : ℕ) {tag : ℕ} → tag ≡ 1 → truth (not (eqb payload 1)) ≡ negated k (value_of tag payload)
+pub negated_bool : (k payload : ℕ) {tag : ℕ} → tag ≡ 1 → truth (not (eqb payload 1)) ≡ negated k (value_of tag payload)
 unfolding value_of negated
-negated-bool k payload e = rw e
+negated_bool k payload e = rw e
 
-pub negated-other : (k tag payload : ℕ) → (tag ≡ 1 → ⊥) → stuck k ≡ negated k (value_of tag payload)
+pub negated_other : (k tag payload : ℕ) → (tag ≡ 1 → ⊥) → stuck k ≡ negated k (value_of tag payload)
 unfolding negated
-negated-other k tag payload e = no_bool k tag payload _ e
+negated_other k tag payload e = no_bool k tag payload _ e
 
 -- ════ Leaves ════
 
 module _ (words : List ℕ) (s k : ℕ) where
-  pub slot-none : 16 ≤ s → stuck k ≡ present k (slot_at (take 32 words) s)
-  slot-none h = rw (slot-past (take 32 words) s (omega (arith, length-take 32 words)))
+  pub slot_none : 16 ≤ s → stuck k ≡ present k (slot_at (take 32 words) s)
+  slot_none h = rw (slot_past (take 32 words) s (omega (arith, length-take 32 words)))
 
-  pub slot-short : s < 16 → length words ≤ 2 * s + 1 → stuck k ≡ present k (slot_at (take 32 words) s)
-  slot-short h g = rw (slot-among-first 16 words s h, slot-past words s g)
+  pub slot_short : s < 16 → length words ≤ 2 * s + 1 → stuck k ≡ present k (slot_at (take 32 words) s)
+  slot_short h g = rw (slot_among_first 16 words s h, slot_past words s g)
 
-  pub slot-there : s < 16 → 2 * s + 1 < length words → present k (value_of (get_or words (2 * s) 0) (get_or words (2 * s + 1) 0)) ≡ present k (slot_at (take 32 words) s)
-  slot-there h g = rw (slot-among-first 16 words s h, slot_read words s g)
+  pub slot_there : s < 16 → 2 * s + 1 < length words → present k (value_of (get_or words (2 * s) 0) (get_or words (2 * s + 1) 0)) ≡ present k (slot_at (take 32 words) s)
+  slot_there h g = rw (slot_among_first 16 words s h, slot_read words s g)
 
-pub present-unset : (k payload : ℕ) {tag : ℕ} → tag ≡ 0 → stuck k ≡ present k (value_of tag payload)
+pub present_unset : (k payload : ℕ) {tag : ℕ} → tag ≡ 0 → stuck k ≡ present k (value_of tag payload)
 unfolding value_of
-present-unset k payload e = rw e
+present_unset k payload e = rw e
 
-pub present-other : (k tag payload : ℕ) → 4 < tag → stuck k ≡ present k (value_of tag payload)
+pub present_other : (k tag payload : ℕ) → 4 < tag → stuck k ≡ present k (value_of tag payload)
 unfolding value_of
-present-other k tag payload = by_number (λ t. 4 < t → stuck k ≡ present k (value_of t payload))
+present_other k tag payload = by_number (λ t. 4 < t → stuck k ≡ present k (value_of t payload))
     (λ h. absurd (omega arith)) (λ h. absurd (omega arith)) (λ h. absurd (omega arith)) (λ h. absurd (omega arith)) (λ h. absurd (omega arith)) (λ _. refl) (λ _. refl) (λ _. refl) (λ n _. refl) tag
 
-pub present-set : (k tag payload : ℕ) → (tag ≡ 0 → ⊥) → tag < 5 → given_of tag payload ≡ present k (value_of tag payload)
+pub present_set : (k tag payload : ℕ) → (tag ≡ 0 → ⊥) → tag < 5 → given_of tag payload ≡ present k (value_of tag payload)
 unfolding value_of given_of
-present-set k tag payload = by_number (λ t. (t ≡ 0 → ⊥) → t < 5 → given_of t payload ≡ present k (value_of t payload))
+present_set k tag payload = by_number (λ t. (t ≡ 0 → ⊥) → t < 5 → given_of t payload ≡ present k (value_of t payload))
     (λ n h. absurd (n refl)) (λ n h. refl) (λ n h. refl) (λ n h. refl) (λ n h. refl) (λ n h. absurd (omega arith)) (λ n h. absurd (omega arith)) (λ n h. absurd (omega arith))
     (λ i n h. absurd (omega arith)) tag
 
 module _ (slots : Slots) (k a b : ℕ) where
-  pub leaf-bool : {kind : ℕ} → kind ≡ 16 → truth (eqb a 1) ≡ leafOf slots kind k a b
-  unfolding leafOf
-  leaf-bool e = rw e
+  pub leaf_bool : {kind : ℕ} → kind ≡ 16 → truth (eqb a 1) ≡ leaf_of slots kind k a b
+  unfolding leaf_of
+  leaf_bool e = rw e
 
-  leaf-integer : {kind : ℕ} → kind ≡ 17 → given_of 2 (a * 65536 + b) ≡ leafOf slots kind k a b
-  unfolding leafOf given_of
-  leaf-integer e = rw e (rw (signed_is a b))
+  leaf_integer : {kind : ℕ} → kind ≡ 17 → given_of 2 (a * 65536 + b) ≡ leaf_of slots kind k a b
+  unfolding leaf_of given_of
+  leaf_integer e = rw e (rw (signed_is a b))
 
-  leaf-text : {kind : ℕ} → b < 65536 → kind ≡ 18 → given_of 4 (a * 65536 + b) ≡ leafOf slots kind k a b
-  unfolding leafOf given_of
-  leaf-text h e =
+  leaf_text : {kind : ℕ} → b < 65536 → kind ≡ 18 → given_of 4 (a * 65536 + b) ≡ leaf_of slots kind k a b
+  unfolding leaf_of given_of
+  leaf_text h e =
       let d : (a * 65536 + b) / 65536 ≡ a = omega arith in
       let r : (a * 65536 + b) % 65536 ≡ b = omega arith in
       rw (e, d, r)
 
   -- an Integer or a Text
-  pub leaf-words : (kind : ℕ) → b < 65536 → 17 ≤ kind → kind < 19 → given_of (2 * (kind - 16)) (a * 65536 + b) ≡ leafOf slots kind k a b
-  leaf-words kind h low high = by-test (eqb kind 17) refl
+  pub leaf_words : (kind : ℕ) → b < 65536 → 17 ≤ kind → kind < 19 → given_of (2 * (kind - 16)) (a * 65536 + b) ≡ leaf_of slots kind k a b
+  leaf_words kind h low high = by_test (eqb kind 17) refl
     where
-      by-test : (t : Bool) → eqb kind 17 ≡ t → given_of (2 * (kind - 16)) (a * 65536 + b) ≡ leafOf slots kind k a b
-      by-test true e = let is = eqb-true kind 17 e in let tag : 2 * (kind - 16) ≡ 2 = omega arith in rw tag (leaf-integer is)
-      by-test false e = let is : kind ≡ 18 = omega (arith, eqb-false kind 17 e) in let tag : 2 * (kind - 16) ≡ 4 = omega arith in rw tag (leaf-text h is)
+      by_test : (t : Bool) → eqb kind 17 ≡ t → given_of (2 * (kind - 16)) (a * 65536 + b) ≡ leaf_of slots kind k a b
+      by_test true e = let is = eqb-true kind 17 e in let tag : 2 * (kind - 16) ≡ 2 = omega arith in rw tag (leaf_integer is)
+      by_test false e = let is : kind ≡ 18 = omega (arith, eqb-false kind 17 e) in let tag : 2 * (kind - 16) ≡ 4 = omega arith in rw tag (leaf_text h is)
 
-  pub leaf-slot : {kind : ℕ} → kind ≡ 19 → present k (get_or slots a Val.Absent) ≡ leafOf slots kind k a b
-  unfolding leafOf
-  leaf-slot e = rw e
+  pub leaf_slot : {kind : ℕ} → kind ≡ 19 → present k (get_or slots a Val.Absent) ≡ leaf_of slots kind k a b
+  unfolding leaf_of
+  leaf_slot e = rw e
 
   -- below 16
-  pub leaf-other : (kind : ℕ) → kind < 16 → truth false ≡ leafOf slots kind k a b
-  unfolding leafOf
-  leaf-other kind h =
+  pub leaf_other : (kind : ℕ) → kind < 16 → truth false ≡ leaf_of slots kind k a b
+  unfolding leaf_of
+  leaf_other kind h =
       rw (ne_eqb kind 16 (λ e. omega arith), ne_eqb kind 17 (λ e. omega arith), ne_eqb kind 18 (λ e. omega arith), ne_eqb kind 19 (λ e. omega arith))
 
 -- ════ Bools and numbers that code has made ════
 
-pub truth-is : (b : Bool) → given_of 1 (bool_byte b) ≡ truth b
+pub truth_is : (b : Bool) → given_of 1 (bool_byte b) ≡ truth b
 unfolding given_of
-truth-is true = refl
-truth-is false = refl
+truth_is true = refl
+truth_is false = refl
 
 module _ (k : ℕ) where
   pub number_is : (z : ℤ) → SFits w32 z → {n : Number} {p : ℕ} → n ≡ Is z → p ≡ word_of z → given_of 2 p ≡ number_at k n
   unfolding given_of
-  number_is z f e q = rw (e, q, integer-word z f)
+  number_is z f e q = rw (e, q, integer_word z f)
 
-  pub number-overflow : k < 65536 → {n : Number} {why : Fault} → n ≡ Not why → why ≡ Overflow → given_of 6 k ≡ number_at k n
+  pub number_overflow : k < 65536 → {n : Number} {why : Fault} → n ≡ Not why → why ≡ Overflow → given_of 6 k ≡ number_at k n
   unfolding given_of
-  number-overflow h e f = let s : k % 65536 ≡ k = omega arith in rw (e, f, s)
+  number_overflow h e f = let s : k % 65536 ≡ k = omega arith in rw (e, f, s)
 
-  pub number-zero-divisor : k < 65536 → {n : Number} {why : Fault} → n ≡ Not why → why ≡ ZeroDivisor → given_of 7 k ≡ number_at k n
+  pub number_zero_divisor : k < 65536 → {n : Number} {why : Fault} → n ≡ Not why → why ≡ ZeroDivisor → given_of 7 k ≡ number_at k n
   unfolding given_of
-  number-zero-divisor h e f = let s : k % 65536 ≡ k = omega arith in rw (e, f, s)
+  number_zero_divisor h e f = let s : k % 65536 ≡ k = omega arith in rw (e, f, s)

@@ -15,9 +15,9 @@ meant (Is v) = value v
 meant (Ends why k) = ends why k
 
 -- operator k at two Integers; an operator that takes no Integers, or takes others too, is not asked
-unfoldable pub ofIntegers : Operator → ℕ → ℤ → ℤ → written.Evaluated Value
-ofIntegers (Calculate op) k a b = number_at k (calculated op a b)
-ofIntegers Equal k a b = stuck k
-ofIntegers Greater k a b = truth (lt_z b a)
-ofIntegers And k a b = stuck k
-ofIntegers Or k a b = stuck k
+unfoldable pub of_integers : Operator → ℕ → ℤ → ℤ → written.Evaluated Value
+of_integers (Calculate op) k a b = number_at k (calculated op a b)
+of_integers Equal k a b = stuck k
+of_integers Greater k a b = truth (lt_z b a)
+of_integers And k a b = stuck k
+of_integers Or k a b = stuck k

@@ -2,7 +2,7 @@
 ghost use Rattle.std.specs.Prelude.{◌≡◌, take, ◌<◌, ◌≤◌};
 ghost use Rattle.grammar.specs.Answer.{setting_of};
 ghost use Rattle.grammar.specs.Run.{eval};
-ghost use Rattle.grammar.specs.Tree.{exprAt, levelsOf};
+ghost use Rattle.grammar.specs.Tree.{expr_at, levels_of};
 ghost use Rattle.values.specs.Slots.{slots_of};
 ghost use Rattle.expressions.specs.Meant.{meant};
 
@@ -20,14 +20,14 @@ pub enum Evaluated {
 
 // The levels of node k that are looked at.
 fn levels_of(k: u16) -> usize
-    ensures { (result ≡ levelsOf k) × (0 < result) × (result ≤ 1024) }
+    ensures { (result ≡ levels_of k) × (0 < result) × (result ≤ 1024) }
 {
     if k < 1024 { k as usize + 1 } else { 1024 }
 }
 
 // What expression node k gives, with the slots in the first 32 words of `slots`: for a table of sound form as document 01 says. A part has a
 // smaller number than its node, so node k has at most k + 1 levels, and a table has at most 1,024 nodes. For any other table it answers what the
-// words stand for (`exprAt` of the grammar) and ends too.
+// words stand for (`expr_at` of the grammar) and ends too.
 pub fn evaluate<'a>(
     words: &[u16],
     literals: &'a [u8],
@@ -35,7 +35,7 @@ pub fn evaluate<'a>(
     slots: &[u32],
     k: u16,
 ) -> Evaluated
-    ensures { meant result ≡ eval (setting_of words.now literals.now message.now) (slots_of (take 32 slots.now)) (exprAt words.now k) }
+    ensures { meant result ≡ eval (setting_of words.now literals.now message.now) (slots_of (take 32 slots.now)) (expr_at words.now k) }
 {
     results::evaluated(walks::walked(words, literals, message, slots, levels_of(k), k))
 }

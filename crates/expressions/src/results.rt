@@ -3,8 +3,8 @@ ghost use Rattle.std.specs.Prelude.{◌≡◌, ◌<◌, take};
 ghost use Rattle.grammar.specs.Values.{number_at, present, equal, operate, negated};
 ghost use Rattle.grammar.specs.Values as written;
 ghost use Rattle.values.specs.Slots.{slots_of, slot_at};
-ghost use Rattle.expressions.specs.Meant.{meant, ofIntegers};
-ghost use Rattle.expressions.specs.Given.{given, held, operatorOf, leafOf, isText, bothIntegers, spanIn};
+ghost use Rattle.expressions.specs.Meant.{meant, of_integers};
+ghost use Rattle.expressions.specs.Given.{given, held, operator_of, leaf_of, is_text, both_integers, span_in};
 
 use crate::Evaluated;
 use grammar::{Arithmetic, Ending, Fault, Number, Span};
@@ -64,7 +64,7 @@ fn slot_given(slots: &[u32], s: u16, k: u16) -> Given
 // A node below 20, from its kind and its fields a and b; what is no expression counts as false. Integers, 17, and Texts, 18, have tags 2 and 4.
 pub(crate) fn leaf(slots: &[u32], kind: u16, k: u16, a: u16, b: u16) -> Given
     requires { kind < 20 }
-    ensures { given result ≡ leafOf (slots_of (take 32 slots.now)) kind k a b }
+    ensures { given result ≡ leaf_of (slots_of (take 32 slots.now)) kind k a b }
 {
     if kind == 19 {
         return slot_given(slots, a, k);
@@ -105,7 +105,7 @@ fn number_given(n: Number, k: u16) -> Given
 
 // Operator j, of node k, at two Integers.
 fn integers_given(j: u8, k: u16, a: i32, b: i32) -> Given
-    ensures { given result ≡ ofIntegers (operatorOf j) k a b }
+    ensures { given result ≡ of_integers (operator_of j) k a b }
 {
     match j {
         0 => number_given(values::numbers::calculate(Arithmetic::Add, a, b), k),
@@ -118,14 +118,14 @@ fn integers_given(j: u8, k: u16, a: i32, b: i32) -> Given
 }
 
 fn is_text(g: Given) -> bool
-    ensures { result ≡ isText g }
+    ensures { result ≡ is_text g }
 {
     if g.tag < 3 { false } else { g.tag < 5 }
 }
 
 // The part that a Text is.
 fn span_in(g: Given) -> Span
-    ensures { result ≡ spanIn g }
+    ensures { result ≡ span_in g }
 {
     Span {
         literal: g.tag == 4,
@@ -163,7 +163,7 @@ fn equal_given<'a>(message: &'a [u8], literals: &'a [u8], k: u16, v: Given, w: G
 }
 
 fn both_integers(v: Given, w: Given) -> bool
-    ensures { result ≡ bothIntegers v w }
+    ensures { result ≡ both_integers v w }
 {
     if v.tag == 2 { w.tag == 2 } else { false }
 }
@@ -177,7 +177,7 @@ pub(crate) fn operate_given<'a>(
     v: Given,
     w: Given,
 ) -> Given
-    ensures { given result ≡ operate message.now literals.now (operatorOf j) k (held v) (held w) }
+    ensures { given result ≡ operate message.now literals.now (operator_of j) k (held v) (held w) }
 {
     if j == 4 {
         return equal_given(message, literals, k, v, w);

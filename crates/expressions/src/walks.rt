@@ -1,11 +1,11 @@
 // A walk over an expression without recursion: the operators at work stand in a pile of numbers. An operand that is a leaf gives its value at once, and its operator needs no place
 // for it. The larger functions of a step have one caller each: so the compiler lays the whole step into the loop.
 ghost use Rattle.std.specs.Prelude.{◌≡◌, true, false, ◌<◌, ◌≤◌, length};
-ghost use Rattle.laws.specs.Pile.{Alike, comesTo};
-ghost use Rattle.grammar.specs.Words.{nodeStart};
+ghost use Rattle.laws.specs.Pile.{Alike, comes_to};
+ghost use Rattle.grammar.specs.Words.{node_start};
 ghost use Rattle.expressions.specs.declared.walks.Way.TheVariants.{Left};
 ghost use Rattle.expressions.specs.Given.{given};
-ghost use Rattle.expressions.specs.Walks.{asked, came, resolvedAt, walking, Steps, Filled, operatorBegins, resultFound, halfFound, hasLeft, hasBoth, goesOn, looksNoFurther, Seen, Opened, TakenUp, WithOne, WithRight, WithLeft, Turned, Resumed, Settled, Rested};
+ghost use Rattle.expressions.specs.Walks.{asked, came, resolved_at, walking, Steps, Filled, operator_begins, result_found, half_found, has_left, has_both, goes_on, looks_no_further, Seen, Opened, TakenUp, WithOne, WithRight, WithLeft, Turned, Resumed, Settled, Rested};
 
 use crate::results::{Given, leaf, negate_given, operate_given, stuck};
 use table::records::{Head, head_from, node_place};
@@ -45,7 +45,7 @@ pub struct Halfway {
 
 fn begun(h: Head, k: u16, top: usize) -> Walk
     requires { (20 ≤ h.kind) × (h.kind ≤ 28) }
-    ensures { result ≡ operatorBegins h k top }
+    ensures { result ≡ operator_begins h k top }
 {
     Walk {
         begins: true,
@@ -59,7 +59,7 @@ fn begun(h: Head, k: u16, top: usize) -> Walk
 }
 
 fn result(g: Given, top: usize) -> Walk
-    ensures { result ≡ resultFound g top }
+    ensures { result ≡ result_found g top }
 {
     Walk {
         begins: false,
@@ -73,7 +73,7 @@ fn result(g: Given, top: usize) -> Walk
 }
 
 fn found(g: Given, top: usize) -> Halfway
-    ensures { result ≡ halfFound g top }
+    ensures { result ≡ half_found g top }
 {
     Halfway {
         way: Way::Found,
@@ -88,7 +88,7 @@ fn found(g: Given, top: usize) -> Halfway
 }
 
 fn has_left(j: u8, k: u16, b: u16, v: Given, top: usize) -> Halfway
-    ensures { result ≡ hasLeft j k b v top }
+    ensures { result ≡ has_left j k b v top }
 {
     Halfway {
         way: Way::Left,
@@ -103,7 +103,7 @@ fn has_left(j: u8, k: u16, b: u16, v: Given, top: usize) -> Halfway
 }
 
 fn has_both(j: u8, k: u16, v: Given, w: Given, top: usize) -> Halfway
-    ensures { result ≡ hasBoth j k v w top }
+    ensures { result ≡ has_both j k v w top }
 {
     Halfway {
         way: Way::Both,
@@ -119,7 +119,7 @@ fn has_both(j: u8, k: u16, v: Given, w: Given, top: usize) -> Halfway
 
 // Node k, on level n. `levels` levels are looked at; what lies deeper, or has a number that is no expression's kind, counts as false, as kind 0 does.
 fn seen(words: &[u16], first: u32, levels: usize, n: usize, k: u16) -> Head
-    requires { first ≡ nodeStart words.now 0 }
+    requires { first ≡ node_start words.now 0 }
     ensures { Seen words.now levels n k result }
 {
     if levels <= n {
@@ -167,7 +167,7 @@ fn enter(
     w: Walk,
     pile: &mut [u64],
 ) -> Halfway
-    requires { (first ≡ nodeStart words.now 0) × (w.begins ≡ true) × (w.top < length pile.old) }
+    requires { (first ≡ node_start words.now 0) × (w.begins ≡ true) × (w.top < length pile.old) }
     ensures { TakenUp pile.old pile.new words.now slots.now levels w result }
 {
     let h = seen(words, first, levels, w.top + 1, w.a);
@@ -214,7 +214,7 @@ fn right(
     s: Halfway,
     pile: &mut [u64],
 ) -> Halfway
-    requires { (first ≡ nodeStart words.now 0) × (s.v.tag < 5) × (s.j < 8) × (s.top < length pile.old) }
+    requires { (first ≡ node_start words.now 0) × (s.v.tag < 5) × (s.j < 8) × (s.top < length pile.old) }
     ensures { WithRight pile.old pile.new words.now slots.now levels s.top s.j s.k s.b s.v result }
 {
     let v = s.v;
@@ -232,7 +232,7 @@ fn right(
 
 // Does operator j, with its left or only value, look at no right operand? "And, or look at the left value first": it isn't Bool, or decides. Not has no other.
 fn looks_no_further(j: u8, v: Given) -> bool
-    ensures { result ≡ looksNoFurther j v }
+    ensures { result ≡ looks_no_further j v }
 {
     if j < 6 {
         return false;
@@ -248,7 +248,7 @@ fn looks_no_further(j: u8, v: Given) -> bool
 
 // And what it gives then.
 fn with_one(j: u8, k: u16, v: Given) -> Given
-    requires { looksNoFurther j v ≡ true }
+    requires { looks_no_further j v ≡ true }
     ensures { WithOne j k v result }
 {
     if 8 <= j {
@@ -272,7 +272,7 @@ fn after_left(
     s: Halfway,
     pile: &mut [u64],
 ) -> Halfway
-    requires { (first ≡ nodeStart words.now 0) × (s.v.tag < 5) × (s.top < length pile.old) }
+    requires { (first ≡ node_start words.now 0) × (s.v.tag < 5) × (s.top < length pile.old) }
     ensures { WithLeft pile.old pile.new words.now slots.now levels s.top s.j s.k s.b s.v result }
 {
     let v = s.v;
@@ -291,7 +291,7 @@ fn take_up(
     w: Walk,
     pile: &mut [u64],
 ) -> Halfway
-    requires { (first ≡ nodeStart words.now 0) × (goesOn (length pile.old) w ≡ true) × (w.top ≤ length pile.old) }
+    requires { (first ≡ node_start words.now 0) × (goes_on (length pile.old) w ≡ true) × (w.top ≤ length pile.old) }
     ensures { TakenUp pile.old pile.new words.now slots.now levels w result }
 {
     if w.begins {
@@ -309,7 +309,7 @@ fn turn(
     s: Halfway,
     pile: &mut [u64],
 ) -> Halfway
-    requires { (first ≡ nodeStart words.now 0) × (s.way ≡ Left → (s.v.tag < 5) × (s.top < length pile.old)) }
+    requires { (first ≡ node_start words.now 0) × (s.way ≡ Left → (s.v.tag < 5) × (s.top < length pile.old)) }
     ensures { Turned pile.old pile.new words.now slots.now levels s result }
 {
     let way = s.way;
@@ -349,7 +349,7 @@ fn settle<'a>(literals: &'a [u8], message: &'a [u8], s: Halfway) -> Walk
 
 // Until the result is there: a value that no operator waits for, or why the run ends (tags from 5 on). It stops too where an operator begins and the pile has no place for it.
 fn goes_on(w: Walk, room: usize) -> bool
-    ensures { result ≡ goesOn room w }
+    ensures { result ≡ goes_on room w }
 {
     if w.begins {
         return w.top < room;
@@ -370,7 +370,7 @@ fn step<'a>(
     w: Walk,
     pile: &mut [u64],
 ) -> Walk
-    requires { (first ≡ nodeStart words.now 0) × (goesOn (length pile.old) w ≡ true) × Filled levels pile.old w.top }
+    requires { (first ≡ node_start words.now 0) × (goes_on (length pile.old) w ≡ true) × Filled levels pile.old w.top }
     ensures { Steps (asked words.now literals.now message.now slots.now levels) (walking (asked words.now literals.now message.now slots.now levels) pile.old w) pile.new result }
 {
     let s = take_up(words, slots, first, levels, w, pile);
@@ -420,7 +420,7 @@ fn walk_deeper<'a>(
     pile: &[u64],
 ) -> Given
     requires { (0 < levels) × (levels ≤ 1024) × Filled levels pile.now w.top × (length pile.now ≤ 1024) }
-    ensures { given result ≡ comesTo (resolvedAt (asked words.now literals.now message.now slots.now levels)) (walking (asked words.now literals.now message.now slots.now levels) pile.now w) }
+    ensures { given result ≡ comes_to (resolved_at (asked words.now literals.now message.now slots.now levels)) (walking (asked words.now literals.now message.now slots.now levels) pile.now w) }
 {
     let mut longer = [0u64; 1024];
     copied(pile, &mut longer);

@@ -7,52 +7,52 @@ use native.Mathlib.Omega.{arith}
 use lib.Dec.{eqb}
 use lib.ListN.{length, get_or}
 use borrow.Author.Tests.{lt-ltb, le-ltb, eq-eqb, ne_eqb, not-false}
-use Rattle.laws.specs.Counting.{smallestFailing}
-use Rattle.laws.specs.Smallest.{smallest-same}
-use Rattle.grammar.specs.Words.{nodeCount, inheritedCount}
+use Rattle.laws.specs.Counting.{smallest_failing}
+use Rattle.laws.specs.Smallest.{smallest_same}
+use Rattle.grammar.specs.Words.{node_count, inherited_count}
 use Rattle.grammar.specs.declared.Verdict.TheVariants.{Passed, Size, Field, Use, Start}
-use Rattle.grammar.specs.Form.{uses, sizeOk, tableCheck}
+use Rattle.grammar.specs.Form.{uses, size_ok, table_check}
 use Rattle.form.specs.Scan.{found, Scanned, Sized}
-use Rattle.table.proofs.Size.{size-facts}
+use Rattle.table.proofs.Size.{size_facts}
 
 -- what passed SIZE
-pub size-passed : (words : List ℕ) (literalBytes : ℕ) (b : Bool) → b ≡ sizeOk words literalBytes → not b ≡ false → Sized words
-size-passed words literalBytes b told e =
-    let s = size-facts words literalBytes (sym told ∙ not-false b e) in
-    record { few-rules = s.rules-most; few-nodes = s.nodes-most; long = s.words_are }
+pub size_passed : (words : List ℕ) (literal_bytes : ℕ) (b : Bool) → b ≡ size_ok words literal_bytes → not b ≡ false → Sized words
+size_passed words literal_bytes b told e =
+    let s = size_facts words literal_bytes (sym told ∙ not-false b e) in
+    record { few_rules = s.rules_most; few_nodes = s.nodes_most; long = s.words_are }
 
 module _ (words literals : List ℕ) where
-  pub at_size : sizeOk words (length literals) ≡ false → Size ≡ tableCheck words literals
-  unfolding tableCheck
+  pub at_size : size_ok words (length literals) ≡ false → Size ≡ table_check words literals
+  unfolding table_check
   at_size size = rw size
 
   -- the scan stopped at word i
-  module _ (size : sizeOk words (length literals) ≡ true) (counts : List ℕ) (i : ℕ) (scanned : Scanned words counts i) where
-    pub at_field : i < length words → Field i ≡ tableCheck words literals
-    unfolding tableCheck
+  module _ (size : size_ok words (length literals) ≡ true) (counts : List ℕ) (i : ℕ) (scanned : Scanned words counts i) where
+    pub at_field : i < length words → Field i ≡ table_check words literals
+    unfolding table_check
     at_field h = rw (size, ← scanned.stopped, lt-ltb i (length words) h)
 
     -- past the last word; and node k is the first of n whose count is not 1, or there is none
-    module _ (none : length words ≤ i) (n k : ℕ) (nodes : n ≡ nodeCount words) (few : n ≤ 1024)
-        (other : found n k ≡ smallestFailing (λ m. eqb (get_or counts m 0) 1) 0 n) where
+    module _ (none : length words ≤ i) (n k : ℕ) (nodes : n ≡ node_count words) (few : n ≤ 1024)
+        (other : found n k ≡ smallest_failing (λ m. eqb (get_or counts m 0) 1) 0 n) where
       -- what the counts say of the uses
-      misused : smallestFailing (λ m. eqb (uses words m) 1) 0 (nodeCount words) ≡ found n k
+      misused : smallest_failing (λ m. eqb (uses words m) 1) 0 (node_count words) ≡ found n k
       misused =
           rw (other, ← nodes)
-          (smallest-same (λ m. eqb (uses words m) 1) (λ m. eqb (get_or counts m 0) 1) 0 n (λ m low high. rw ((scanned.counted none).at m (omega arith))))
+          (smallest_same (λ m. eqb (uses words m) 1) (λ m. eqb (get_or counts m 0) 1) 0 n (λ m low high. rw ((scanned.counted none).at m (omega arith))))
 
-      at-use : k < n → Use k ≡ tableCheck words literals
-      unfolding tableCheck
-      at-use h = rw (size, ← scanned.stopped, le-ltb i (length words) none, misused, lt-ltb k n h)
+      at_use : k < n → Use k ≡ table_check words literals
+      unfolding table_check
+      at_use h = rw (size, ← scanned.stopped, le-ltb i (length words) none, misused, lt-ltb k n h)
 
-      at-start : n ≤ k → 0 < inheritedCount words 0 → Start ≡ tableCheck words literals
-      unfolding tableCheck
-      at-start once h = rw (size, ← scanned.stopped, le-ltb i (length words) none, misused, le-ltb k n once, ne_eqb (inheritedCount words 0) 0 (omega arith))
+      at_start : n ≤ k → 0 < inherited_count words 0 → Start ≡ table_check words literals
+      unfolding table_check
+      at_start once h = rw (size, ← scanned.stopped, le-ltb i (length words) none, misused, le-ltb k n once, ne_eqb (inherited_count words 0) 0 (omega arith))
 
-      at-end : n ≤ k → inheritedCount words 0 ≤ 0 → Passed ≡ tableCheck words literals
-      unfolding tableCheck
-      at-end once h = rw (size, ← scanned.stopped, le-ltb i (length words) none, misused, le-ltb k n once, eq-eqb (inheritedCount words 0) 0 (omega arith))
+      at_end : n ≤ k → inherited_count words 0 ≤ 0 → Passed ≡ table_check words literals
+      unfolding table_check
+      at_end once h = rw (size, ← scanned.stopped, le-ltb i (length words) none, misused, le-ltb k n once, eq-eqb (inherited_count words 0) 0 (omega arith))
 
-      pub after-scan : (k < n → Use k ≡ tableCheck words literals) × (n ≤ k → 0 < inheritedCount words 0 → Start ≡ tableCheck words literals)
-          × (n ≤ k → inheritedCount words 0 ≤ 0 → Passed ≡ tableCheck words literals)
-      after-scan = (at-use, at-start, at-end)
+      pub after_scan : (k < n → Use k ≡ table_check words literals) × (n ≤ k → 0 < inherited_count words 0 → Start ≡ table_check words literals)
+          × (n ≤ k → inherited_count words 0 ≤ 0 → Passed ≡ table_check words literals)
+      after_scan = (at_use, at_start, at_end)

@@ -8,40 +8,40 @@ use native.Mathlib.Nat.{eq-or-lt_of_le}
 use native.Mathlib.Omega.{arith}
 use lib.ListN.{length, get_or, replicate}
 use borrow.Author.Tests.{lt-ltb, le-ltb}
-use Rattle.laws.specs.Smallest.{smallest-at, smallest-none}
+use Rattle.laws.specs.Smallest.{smallest_at, smallest_none}
 use Rattle.grammar.specs.Words.{word}
-use Rattle.grammar.specs.Form.{inRecord, ruleWordUses, nodeWordUses, wordOk, uses}
-use Rattle.form.specs.Sorts.{isNode}
-use Rattle.form.specs.Scan.{oneMore, Scanned}
-use Rattle.form.proofs.Tallies.{Tally, tally-none, tally-most, tally-next, more-long}
+use Rattle.grammar.specs.Form.{in_record, rule_word_uses, node_word_uses, word_ok, uses}
+use Rattle.form.specs.Sorts.{is_node}
+use Rattle.form.specs.Scan.{one_more, Scanned}
+use Rattle.form.proofs.Tallies.{Tally, tally_none, tally_most, tally_next, more_long}
 
 pub record Seen (words counts : List ℕ) (i : ℕ) : Type 0 where
-  pub passed : (k : ℕ) → 3 ≤ k → k < i → wordOk words k ≡ true
+  pub passed : (k : ℕ) → 3 ≤ k → k < i → word_ok words k ≡ true
   pub long : length counts ≡ 1024
   pub tally : Tally words counts i
 
 pub seen_none : (words counts : List ℕ) → counts ≡ replicate 1024 0 → Seen words counts 3
-seen_none words counts zero = rw zero (record { passed = λ k low high. absurd (omega arith); long = refl; tally = tally-none words })
+seen_none words counts zero = rw zero (record { passed = λ k low high. absurd (omega arith); long = refl; tally = tally_none words })
 
 module _ (words counts : List ℕ) (i : ℕ) (from : 3 ≤ i) (seen : Seen words counts i) where
   pub room : i < 65535 → (k : ℕ) → get_or counts k 0 < 65535
-  room h k = omega (arith, tally-most words counts i from seen.long seen.tally k)
+  room h k = omega (arith, tally_most words counts i from seen.long seen.tally k)
 
   -- the word is right, and of a sort in force that uses a node or not
-  pub seen_next : (n : ℕ) → wordOk words i ≡ true → inRecord words (ruleWordUses words) (nodeWordUses words) i ≡ isNode n
-      → Seen words (oneMore counts n (word words i)) (i + 1)
+  pub seen_next : (n : ℕ) → word_ok words i ≡ true → in_record words (rule_word_uses words) (node_word_uses words) i ≡ is_node n
+      → Seen words (one_more counts n (word words i)) (i + 1)
   seen_next n right told =
       record {
         passed = λ k low high. ⊎_elim (λ (e : k ≡ i). rw e right) (λ (h : k < i). seen.passed k low h) (eq-or-lt_of_le (omega arith));
-        long = more-long counts seen.long n (word words i);
-        tally = tally-next words counts i from seen.long seen.tally n told;
+        long = more_long counts seen.long n (word words i);
+        tally = tally_next words counts i from seen.long seen.tally n told;
       }
 
   -- the word is bad, or there is none
-  pub at-bad : (after : List ℕ) → i < length words → wordOk words i ≡ false → Scanned words after i
-  at-bad after h bad =
+  pub at_bad : (after : List ℕ) → i < length words → word_ok words i ≡ false → Scanned words after i
+  at_bad after h bad =
       record {
-        stopped = rw (lt-ltb i (length words) h) (sym (smallest-at (wordOk words) 3 (length words - 3) i from (omega arith) seen.passed bad));
+        stopped = rw (lt-ltb i (length words) h) (sym (smallest_at (word_ok words) 3 (length words - 3) i from (omega arith) seen.passed bad));
         counted = λ end. absurd (omega arith);
       }
 
@@ -50,6 +50,6 @@ module _ (words counts : List ℕ) (i : ℕ) (from : 3 ≤ i) (seen : Seen words
   at_all end =
       record {
         stopped =
-            rw (le-ltb i (length words) (omega arith)) (sym (smallest-none (wordOk words) 3 (length words - 3) (λ k low high. seen.passed k low (omega arith))));
+            rw (le-ltb i (length words) (omega arith)) (sym (smallest_none (word_ok words) 3 (length words - 3) (λ k low high. seen.passed k low (omega arith))));
         counted = λ h. record { at = λ k few. rw (← end) (seen.tally k few) };
       }

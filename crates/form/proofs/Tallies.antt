@@ -8,26 +8,26 @@ use lib.Dec.{eqb, ltb}
 use lib.ListN.{length, get_or, set, replicate, length-set, get_or-replicate, get_or-eq_default}
 use lib.Seq.{get_or-set_same, get_or-set_other}
 use borrow.Author.Tests.{eqb-true, eqb-false, ltb-true, ltb-false}
-use Rattle.laws.specs.Counting.{howMany}
-use Rattle.laws.specs.Counts.{howMany-more, howMany-most}
+use Rattle.laws.specs.Counting.{how_many}
+use Rattle.laws.specs.Counts.{how_many_more, how_many_most}
 use Rattle.grammar.specs.Words.{word}
-use Rattle.grammar.specs.Form.{inRecord, ruleWordUses, nodeWordUses, wordUses}
-use Rattle.form.specs.Sorts.{isNode}
-use Rattle.form.specs.Scan.{oneMore}
+use Rattle.grammar.specs.Form.{in_record, rule_word_uses, node_word_uses, word_uses}
+use Rattle.form.specs.Sorts.{is_node}
+use Rattle.form.specs.Scan.{one_more}
 
 -- one use more, where there is one
 module _ (counts : List ℕ) (long : length counts ≡ 1024) (n w : ℕ) where
-  pub more-long : length (oneMore counts n w) ≡ 1024
-  unfolding oneMore
-  more-long = go (isNode n && ltb w 1024)
+  pub more_long : length (one_more counts n w) ≡ 1024
+  unfolding one_more
+  more_long = go (is_node n && ltb w 1024)
     where
       go : (b : Bool) → length (cond b (set counts w (get_or counts w 0 + 1)) counts) ≡ 1024
       go true = simp length-set long
       go false = long
 
-  more-at : (k : ℕ) → k < 1024 → get_or (oneMore counts n w) k 0 ≡ get_or counts k 0 + cond (eqb w k && isNode n) 1 0
-  unfolding oneMore
-  more-at k hk = go (eqb w k) refl (isNode n) (ltb w 1024) refl
+  more_at : (k : ℕ) → k < 1024 → get_or (one_more counts n w) k 0 ≡ get_or counts k 0 + cond (eqb w k && is_node n) 1 0
+  unfolding one_more
+  more_at k hk = go (eqb w k) refl (is_node n) (ltb w 1024) refl
     where
       go : (b : Bool) → eqb w k ≡ b → (node : Bool) (few : Bool) → ltb w 1024 ≡ few
           → get_or (cond (node && few) (set counts w (get_or counts w 0 + 1)) counts) k 0 ≡ get_or counts k 0 + cond (b && node) 1 0
@@ -41,24 +41,24 @@ module _ (counts : List ℕ) (long : length counts ≡ 1024) (n w : ℕ) where
 
 -- counts hold, for each node, its uses among the words from 3 to i
 abbrev pub Tally : List ℕ → List ℕ → ℕ → Type 0
-Tally words counts i = (k : ℕ) → k < 1024 → get_or counts k 0 ≡ howMany (wordUses words k) 3 (i - 3)
+Tally words counts i = (k : ℕ) → k < 1024 → get_or counts k 0 ≡ how_many (word_uses words k) 3 (i - 3)
 
-pub tally-none : (words : List ℕ) → Tally words (replicate 1024 0) 3
-unfolding howMany
-tally-none words k h = get_or-replicate 1024 k 0 0 h
+pub tally_none : (words : List ℕ) → Tally words (replicate 1024 0) 3
+unfolding how_many
+tally_none words k h = get_or-replicate 1024 k 0 0 h
 
 module _ (words counts : List ℕ) (i : ℕ) (from : 3 ≤ i) (long : length counts ≡ 1024) (inv : Tally words counts i) where
-  pub tally-most : (k : ℕ) → get_or counts k 0 ≤ i
-  tally-most k = go (ltb k 1024) refl
+  pub tally_most : (k : ℕ) → get_or counts k 0 ≤ i
+  tally_most k = go (ltb k 1024) refl
     where
       go : (b : Bool) → ltb k 1024 ≡ b → get_or counts k 0 ≤ i
-      go true e = omega (arith, inv k (ltb-true k 1024 e), howMany-most (wordUses words k) 3 (i - 3))
+      go true e = omega (arith, inv k (ltb-true k 1024 e), how_many_most (word_uses words k) 3 (i - 3))
       go false e = let past : length counts ≤ k = omega (arith, ltb-false k 1024 e) in rw (get_or-eq_default counts 0 past) (omega arith)
 
   -- one word more
-  pub tally-next : (n : ℕ) → inRecord words (ruleWordUses words) (nodeWordUses words) i ≡ isNode n → Tally words (oneMore counts n (word words i)) (i + 1)
-  unfolding wordUses
-  tally-next n told k hk =
+  pub tally_next : (n : ℕ) → in_record words (rule_word_uses words) (node_word_uses words) i ≡ is_node n → Tally words (one_more counts n (word words i)) (i + 1)
+  unfolding word_uses
+  tally_next n told k hk =
       let here : 3 + (i - 3) ≡ i = omega arith in
       let next : i + 1 - 3 ≡ i - 3 + 1 = omega arith in
-      rw (next, howMany-more (wordUses words k) 3 (i - 3), here, told, ← inv k hk) (more-at counts long n (word words i) k hk)
+      rw (next, how_many_more (word_uses words k) 3 (i - 3), here, told, ← inv k hk) (more_at counts long n (word words i) k hk)

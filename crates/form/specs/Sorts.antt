@@ -1,11 +1,11 @@
 -- The sorts of a record's words as numbers, which the code's constant tables hold. Assumes nothing.
 use Rattle.std.specs.Prelude.{List, [], ◌∷◌, map, Bool, cond, ◌||◌, ℕ, ◌+◌, ◌-◌, ltb, eqb, get_or}
-use Rattle.grammar.specs.Words.{word, inheritedCount, returnedCount}
-use Rattle.grammar.specs.Form.{Sort, unused, byte, bit, any, parsing, expression, rule, slot, argument, receiving, textStart, textLength, count, inheritedType, returned, returnedType, fits, ruleSorts, is_type, isKind}
+use Rattle.grammar.specs.Words.{word, inherited_count, returned_count}
+use Rattle.grammar.specs.Form.{Sort, unused, byte, bit, any, parsing, expression, rule, slot, argument, receiving, text_start, text_length, count, inherited_type, returned, returned_type, fits, rule_sorts, is_type, is_kind}
 
 -- a number below 11 stands for a sort
-unfoldable pub plainSorts : List Sort
-plainSorts = unused ∷ byte ∷ bit ∷ any ∷ parsing ∷ expression ∷ rule ∷ slot ∷ textStart ∷ textLength ∷ count ∷ []
+unfoldable pub plain_sorts : List Sort
+plain_sorts = unused ∷ byte ∷ bit ∷ any ∷ parsing ∷ expression ∷ rule ∷ slot ∷ text_start ∷ text_length ∷ count ∷ []
 
 -- the number of each sort; from 11 on there are four numbers to a sort that has places
 unfoldable pub number_of : Sort → ℕ
@@ -17,18 +17,18 @@ number_of parsing = 4
 number_of expression = 5
 number_of rule = 6
 number_of slot = 7
-number_of textStart = 8
-number_of textLength = 9
+number_of text_start = 8
+number_of text_length = 9
 number_of count = 10
 number_of (argument i) = 11 + i
 number_of (receiving i) = 15 + i
-number_of (inheritedType i) = 19 + i
+number_of (inherited_type i) = 19 + i
 number_of (returned i) = 23 + i
-number_of (returnedType i) = 27 + i
+number_of (returned_type i) = 27 + i
 
 -- the words of a rule's record
-abbrev pub ruleNumbers : List ℕ
-ruleNumbers = map number_of ruleSorts
+abbrev pub rule_numbers : List ℕ
+rule_numbers = map number_of rule_sorts
 
 -- the row of a kind, where there is one for each of the kinds below 29; any other has that of 0, which is no kind
 unfoldable pub row_of : (kind : ℕ) → ℕ
@@ -50,8 +50,8 @@ module _ (words : List ℕ) (start : ℕ) where
       let six = word words (start + 6) in
       cond (ltb n 11) n
       (cond (eqb n 32) n
-      (cond (ltb n 15) (placed (n - 11) (inheritedCount words one) 5)
-      (cond (ltb n 19) (placed (n - 15) (returnedCount words one) 7)
+      (cond (ltb n 15) (placed (n - 11) (inherited_count words one) 5)
+      (cond (ltb n 19) (placed (n - 15) (returned_count words one) 7)
       (cond (ltb n 23) (placed (n - 19) one 31)
       (cond (ltb n 27) (placed (n - 23) six 5)
       (placed (n - 27) six 31))))))
@@ -60,9 +60,9 @@ module _ (words : List ℕ) (start : ℕ) where
   unfoldable pub passes : (bound n w : ℕ) → Bool
   passes bound n w =
       cond (eqb n 31) (is_type w)
-      (cond (eqb n 32) (isKind w)
-      (fits words bound (λ j. word words (start + j)) (get_or plainSorts n unused) w))
+      (cond (eqb n 32) (is_kind w)
+      (fits words bound (λ j. word words (start + j)) (get_or plain_sorts n unused) w))
 
 -- a word of this sort uses a node
-abbrev pub isNode : ℕ → Bool
-isNode n = eqb n 4 || eqb n 5
+abbrev pub is_node : ℕ → Bool
+is_node n = eqb n 4 || eqb n 5

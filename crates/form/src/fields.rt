@@ -1,6 +1,6 @@
 // FIELD: the first word, in word order, that breaks the rules of its record. The same scan counts the uses, for USE.
 ghost use Rattle.std.specs.Prelude.{◌≡◌, ◌<◌, ◌&&◌, cond, leb, get_or, replicate};
-ghost use Rattle.grammar.specs.Form.{isKind, isPart};
+ghost use Rattle.grammar.specs.Form.{is_kind, is_part};
 ghost use Rattle.form.specs.Sorts;
 ghost use Rattle.form.specs.Scan;
 ghost use Rattle.form.specs.Scan.{Scanned, Sized};
@@ -17,7 +17,7 @@ fn between(low: u16, w: u16, high: u16) -> bool
 
 // Document 01 lists 1 to 10 as parsing nodes and 16 to 28 as expressions.
 fn is_kind(w: u16) -> bool
-    ensures { result ≡ isKind w }
+    ensures { result ≡ is_kind w }
 {
     if between(1, w, 10) {
         true
@@ -28,7 +28,7 @@ fn is_kind(w: u16) -> bool
 
 // "A part or argument has a smaller number than its node and is of the sort wanted": of a kind from low to high.
 fn is_part(words: &[u16], low: u16, high: u16, bound: u16, w: u16) -> bool
-    ensures { result ≡ isPart words.now (λ kind. leb low kind && leb kind high) bound w }
+    ensures { result ≡ is_part words.now (λ kind. leb low kind && leb kind high) bound w }
 {
     if w < bound {
         between(low, kind_at(words, w), high)
@@ -71,7 +71,7 @@ fn word_ok(
     requires start_bound { start < 4294967296 }
     requires w_bound { get_or counts.old w 0 < 65535 }
     ensures value { result ≡ Sorts.passes words.now start bound (Sorts.force words.now start own) w }
-    ensures counts_after { counts.new ≡ cond result (Scan.oneMore counts.old (Sorts.force words.now start own) w) counts.old }
+    ensures counts_after { counts.new ≡ cond result (Scan.one_more counts.old (Sorts.force words.now start own) w) counts.old }
 {
     if own == UNUSED {
         return w == 0;
@@ -85,14 +85,14 @@ fn word_ok(
 }
 
 fn record_length(rules: u16, q: u16) -> u16
-    ensures { result ≡ Scan.recordLength rules q }
+    ensures { result ≡ Scan.record_length rules q }
 {
     if q < rules { 15 } else { 10 }
 }
 
 // "A part or argument has a smaller number than its node"; a rule's body and returned nodes may be any nodes.
 fn record_bound(rules: u16, nodes: u16, q: u16) -> u16
-    ensures { result ≡ Scan.recordBound rules nodes q }
+    ensures { result ≡ Scan.record_bound rules nodes q }
 {
     if q < rules { nodes } else { q - rules }
 }

@@ -1,6 +1,6 @@
 // The table check: SIZE, FIELD, USE, START (document 01, 'Words of a table' and 'Numbers that come back').
 ghost use Rattle.std.specs.Prelude.{◌≡◌};
-ghost use Rattle.grammar.specs.Form.{tableCheck};
+ghost use Rattle.grammar.specs.Form.{table_check};
 
 use grammar::Verdict;
 use table::records::{inherited_count, node_count};
@@ -15,7 +15,7 @@ use uses::first_other;
 
 // "Checks go 1, 2, 3, 4".
 pub fn check(words: &[u16], literals: &[u8]) -> Verdict
-    ensures { result ≡ tableCheck words.now literals.now }
+    ensures { result ≡ table_check words.now literals.now }
 {
     if !size_ok(words, literals.len()) {
         return Verdict::Size;

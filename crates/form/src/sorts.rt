@@ -106,7 +106,7 @@ pub(crate) fn row_of(kind: u16) -> u16
 // The sort of word j of a rule.
 fn rule_record_sort(j: u16) -> u8
     requires { j < 15 }
-    ensures { result ≡ get_or Sorts.ruleNumbers j 0 }
+    ensures { result ≡ get_or Sorts.rule_numbers j 0 }
 {
     RULE_SORTS[j as usize]
 }
@@ -124,8 +124,8 @@ fn node_record_sort(rows: &[[u8; 9]; 29], row: u16, j: u16) -> u8
 
 // The sort of word j of record q, rules first and then nodes. `row` is its row if it is a node, and is not looked at for a rule.
 pub(crate) fn record_sort(rows: &[[u8; 9]; 29], rules: u16, q: u16, row: u16, j: u16) -> u8
-    requires { (row < 29) × (j < Scan.recordLength rules q) }
-    ensures { result ≡ Scan.recordSort rows.now rules q row j }
+    requires { (row < 29) × (j < Scan.record_length rules q) }
+    ensures { result ≡ Scan.record_sort rows.now rules q row j }
 {
     if q < rules {
         rule_record_sort(j)

@@ -1,6 +1,6 @@
 // USE: "Each node is used exactly once: as a part, an argument, a body or a returned node."
 ghost use Rattle.std.specs.Prelude.{◌≡◌, ◌<◌, ◌≤◌, eqb, get_or};
-ghost use Rattle.laws.specs.Counting.{smallestFailing};
+ghost use Rattle.laws.specs.Counting.{smallest_failing};
 ghost use Rattle.form.specs.Sorts;
 ghost use Rattle.form.specs.Scan;
 
@@ -8,7 +8,7 @@ use super::sorts::*;
 
 // A word of this sort in force uses a node: a parsing node, or an expression.
 fn is_node(sort: u8) -> bool
-    ensures { result ≡ Sorts.isNode sort }
+    ensures { result ≡ Sorts.is_node sort }
 {
     if sort == PARSING {
         true
@@ -20,7 +20,7 @@ fn is_node(sort: u8) -> bool
 // One use more of the node w, where a word of this sort in force uses one. A number from 1,024 on is no node's, and counts nothing.
 pub(crate) fn count_use(counts: &mut [u16; 1024], sort: u8, w: u16)
     requires { get_or counts.old w 0 < 65535 }
-    ensures { counts.new ≡ Scan.oneMore counts.old sort w }
+    ensures { counts.new ≡ Scan.one_more counts.old sort w }
 {
     if is_node(sort) {
         let k = w as usize;
@@ -33,7 +33,7 @@ pub(crate) fn count_use(counts: &mut [u16; 1024], sort: u8, w: u16)
 // The first of n counts that is not 1; n where there is none.
 pub(crate) fn first_other(counts: &[u16; 1024], n: u16) -> u16
     requires { n ≤ 1024 }
-    ensures { Scan.found n result ≡ smallestFailing (λ k. eqb (get_or counts.now k 0) 1) 0 n }
+    ensures { Scan.found n result ≡ smallest_failing (λ k. eqb (get_or counts.now k 0) 1) 0 n }
 {
     let mut k: u16 = 0;
     while k < n {

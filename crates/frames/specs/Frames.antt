@@ -3,7 +3,7 @@
 -- A read past the end gives 0, a write past the end does nothing. Assumes nothing.
 use Rattle.std.specs.Prelude.{List, cond, ◌≡◌, ℕ, zero, suc, ◌+◌, ◌*◌, ◌%◌, ◌<◌, ltb, get_or, set, take}
 use Rattle.grammar.specs.declared.Value.{Value}
-use Rattle.values.specs.Slots.{slots_of, withSlot}
+use Rattle.values.specs.Slots.{slots_of, with_slot}
 
 -- where frame d starts
 abbrev pub base : ℕ → ℕ
@@ -30,12 +30,12 @@ cleared w (suc n) = set (cleared w n) n 0
 
 -- ════ The slots in use ════
 
-unfoldable pub slotsIn : List ℕ → List Value
-slotsIn w = slots_of (take 32 w)
+unfoldable pub slots_in : List ℕ → List Value
+slots_in w = slots_of (take 32 w)
 
 -- slot s takes a value; 'A rule has 16 attribute slots': there is no other to write
 unfoldable pub written : List ℕ → ℕ → Value → List ℕ
-written w s v = cond (ltb s 16) (withSlot w s v) w
+written w s v = cond (ltb s 16) (with_slot w s v) w
 
 -- all slots unset: the two words of Absent are zero
 unfoldable pub unset : List ℕ → List ℕ
@@ -44,14 +44,14 @@ unset w = cleared w 32
 -- ════ Frames ════
 
 -- what stands in frame d. A node's number and a position are 16-bit numbers, whatever stands there
-unfoldable pub nodeIn : List ℕ → ℕ → ℕ
-nodeIn w d = get_or w (base d) 0 % 65536
+unfoldable pub node_in : List ℕ → ℕ → ℕ
+node_in w d = get_or w (base d) 0 % 65536
 
-unfoldable pub phaseIn : List ℕ → ℕ → ℕ
-phaseIn w d = get_or w (base d + 1) 0
+unfoldable pub phase_in : List ℕ → ℕ → ℕ
+phase_in w d = get_or w (base d + 1) 0
 
-unfoldable pub fromIn : List ℕ → ℕ → ℕ
-fromIn w d = get_or w (base d + 2) 0 % 65536
+unfoldable pub from_in : List ℕ → ℕ → ℕ
+from_in w d = get_or w (base d + 2) 0 % 65536
 
 -- the node of frame d begins, or begins its next round, at a position, with the slots in use
 unfoldable pub saved : List ℕ → (d at : ℕ) → List ℕ
@@ -62,8 +62,8 @@ unfoldable pub pushed : List ℕ → (d k at : ℕ) → List ℕ
 pushed w d k at = saved (set (set w (base d) k) (base d + 1) 0) d at
 
 -- the node of frame d is in its second part
-unfoldable pub inSecond : List ℕ → ℕ → List ℕ
-inSecond w d = set w (base d + 1) 1
+unfoldable pub in_second : List ℕ → ℕ → List ℕ
+in_second w d = set w (base d + 1) 1
 
 -- the slots in use are again those that frame d's node began with
 unfoldable pub restored : List ℕ → ℕ → List ℕ

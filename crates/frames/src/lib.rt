@@ -3,8 +3,8 @@
 mod words;
 
 ghost use Rattle.std.specs.Prelude.{◌≡◌, ◌+◌, ◌*◌};
-ghost use Rattle.grammar.specs.Answer.{workWords};
-ghost use Rattle.frames.specs.Frames.{base, cleared, written, unset, nodeIn, phaseIn, fromIn, saved, pushed, inSecond, restored};
+ghost use Rattle.grammar.specs.Answer.{work_words};
+ghost use Rattle.frames.specs.Frames.{base, cleared, written, unset, node_in, phase_in, from_in, saved, pushed, in_second, restored};
 
 use grammar::Value;
 use values::slots::write_word;
@@ -18,19 +18,19 @@ fn start(d: u16) -> usize
 
 // What is read back is not trusted: a node's number and a position are 16-bit numbers, whatever stands there.
 pub fn node_in(work: &[u32], d: u16) -> u16
-    ensures { result ≡ nodeIn work.now d }
+    ensures { result ≡ node_in work.now d }
 {
     (words::get(work, start(d)) % 65536) as u16
 }
 
 pub fn phase_in(work: &[u32], d: u16) -> u32
-    ensures { result ≡ phaseIn work.now d }
+    ensures { result ≡ phase_in work.now d }
 {
     words::get(work, start(d) + 1)
 }
 
 pub fn from_in(work: &[u32], d: u16) -> u16
-    ensures { result ≡ fromIn work.now d }
+    ensures { result ≡ from_in work.now d }
 {
     (words::get(work, start(d) + 2) % 65536) as u16
 }
@@ -56,7 +56,7 @@ pub fn push(work: &mut [u32], d: u16, k: u16, at: u16)
 
 // The node of frame d goes on to its second part.
 pub fn second(work: &mut [u32], d: u16)
-    ensures { work.new ≡ inSecond work.old d }
+    ensures { work.new ≡ in_second work.old d }
 {
     write_word(work, start(d) + 1, 1);
 }
@@ -86,7 +86,7 @@ pub fn clear_slots(work: &mut [u32])
 
 // "A run leaves the first W words zero."
 pub fn clear_work(work: &mut [u32])
-    ensures { work.new ≡ cleared work.old workWords }
+    ensures { work.new ≡ cleared work.old work_words }
 {
     words::clear(work, 9760);
 }

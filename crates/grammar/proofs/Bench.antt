@@ -10,11 +10,11 @@ use Rattle.grammar.specs.declared.Value.TheVariants as Val
 use Rattle.grammar.specs.declared.Answer.{Answer}
 use Rattle.grammar.specs.declared.Mode.{Mode}
 use Rattle.grammar.specs.declared.Mode.TheVariants.{Bench, Display}
-use Rattle.laws.specs.Counting.{tabulate, smallestFailing, howMany}
+use Rattle.laws.specs.Counting.{tabulate, smallest_failing, how_many}
 use Rattle.laws.specs.Same.{same}
 use Rattle.grammar.specs.Numbers.{DONE, TYPE, NOMATCH, BUDGET, DEEP, STUCK, FAULT}
-use Rattle.grammar.specs.Words.{signed, nodes, nodeFor, nodeAt}
-use Rattle.grammar.specs.Tree.{node, exprOf, parsingOf, exprWith, exprAt, parsingWith, parsingAt, ruleAt, grammarOf}
+use Rattle.grammar.specs.Words.{signed, nodes, node_for, node_at}
+use Rattle.grammar.specs.Tree.{node, expr_of, parsing_of, expr_with, expr_at, parsing_with, parsing_at, rule_at, grammar_of}
 use Rattle.grammar.specs.Form as F
 use Rattle.grammar.specs.Types as T
 use Rattle.grammar.specs.Values as L
@@ -22,8 +22,8 @@ use Rattle.grammar.specs.Run as R
 use Rattle.grammar.specs.Answer as A
 use Rattle.grammar.specs.declared.Verdict.{Verdict}
 use Rattle.grammar.specs.declared.Verdict.TheVariants.{Passed, Untyped}
-use Rattle.grammar.specs.Values.{textBytes}
-use Rattle.grammar.specs.Answer.{answered, answer, typeCheck, workWords}
+use Rattle.grammar.specs.Values.{text_bytes}
+use Rattle.grammar.specs.Answer.{answered, answer, type_check, work_words}
 
 -- a record of so many words, from those at its start: the others are 0
 abbrev pub record' : ℕ → List ℕ → List ℕ
@@ -101,62 +101,62 @@ conjunction a b = 26 ∷ a ∷ b ∷ []
 
 -- ════ The tables ════
 
-unfoldable pub tableA : List ℕ
-tableA = table (returning 1 2 3) (terminal 71 ∷ bind 0 0 ∷ slot 0 ∷ [])
+unfoldable pub table_a : List ℕ
+table_a = table (returning 1 2 3) (terminal 71 ∷ bind 0 0 ∷ slot 0 ∷ [])
 
 -- x←1, x←true
-tableE : List ℕ
-tableE = table (body 4) (integer 0 1 ∷ update 0 0 ∷ bool 1 ∷ update 0 2 ∷ sequence 1 3 ∷ [])
+table_e : List ℕ
+table_e = table (body 4) (integer 0 1 ∷ update 0 0 ∷ bool 1 ∷ update 0 2 ∷ sequence 1 3 ∷ [])
 
 -- ('1' x←1) / ('2' x←2)
-tableF : List ℕ
-tableF = table (returning 8 9 2)
+table_f : List ℕ
+table_f = table (returning 8 9 2)
     (terminal 49 ∷ integer 0 1 ∷ update 0 1 ∷ sequence 0 2
     ∷ terminal 50 ∷ integer 0 2 ∷ update 0 5 ∷ sequence 4 6
     ∷ choice 3 7 ∷ slot 0 ∷ [])
 
 -- ('1' x←1) / '2' returning x
-tableG : List ℕ
-tableG = table (returning 5 6 2)
+table_g : List ℕ
+table_g = table (returning 5 6 2)
     (terminal 49 ∷ integer 0 1 ∷ update 0 1 ∷ sequence 0 2 ∷ terminal 50 ∷ choice 3 4 ∷ slot 0 ∷ [])
 
 -- x←0, !!(x←1)
-tableH : List ℕ
-tableH = table (returning 6 7 2)
+table_h : List ℕ
+table_h = table (returning 6 7 2)
     (integer 0 0 ∷ update 0 0 ∷ integer 0 1 ∷ update 0 2 ∷ unless 3 ∷ unless 4 ∷ sequence 1 5 ∷ slot 0 ∷ [])
 
 -- empty repeated
-tableI : List ℕ
-tableI = table (body 1) (empty ∷ repeat 0 ∷ [])
+table_i : List ℕ
+table_i = table (body 1) (empty ∷ repeat 0 ∷ [])
 
 -- x←0, (?(3>x) x←x+1)*
-tableJ : List ℕ
-tableJ = table (returning 12 13 2)
+table_j : List ℕ
+table_j = table (returning 12 13 2)
     (integer 0 0 ∷ update 0 0
     ∷ integer 0 3 ∷ slot 0 ∷ greater 2 3 ∷ constraint 4
     ∷ slot 0 ∷ integer 0 1 ∷ add 6 7 ∷ update 0 8
     ∷ sequence 5 9 ∷ repeat 10 ∷ sequence 1 11 ∷ slot 0 ∷ [])
 
 -- x←2147483647+1
-tableK : List ℕ
-tableK = table (body 3) (integer 32767 65535 ∷ integer 0 1 ∷ add 0 1 ∷ update 0 2 ∷ [])
+table_k : List ℕ
+table_k = table (body 3) (integer 32767 65535 ∷ integer 0 1 ∷ add 0 1 ∷ update 0 2 ∷ [])
 
 -- empty, returning -7÷2
-tableL : List ℕ
-tableL = table (returning 0 3 2) (empty ∷ integer 65535 65529 ∷ integer 0 2 ∷ divide 1 2 ∷ [])
+table_l : List ℕ
+table_l = table (returning 0 3 2) (empty ∷ integer 65535 65529 ∷ integer 0 2 ∷ divide 1 2 ∷ [])
 
 -- ?(false and 1÷0==0)
-tableM : List ℕ
-tableM = table (body 7)
+table_m : List ℕ
+table_m = table (body 7)
     (bool 0 ∷ integer 0 1 ∷ integer 0 0 ∷ divide 1 2 ∷ integer 0 0 ∷ equal 3 4 ∷ conjunction 0 5 ∷ constraint 6 ∷ [])
 
 -- ('a' 'b') / 'a'
-tableN : List ℕ
-tableN = table (body 4) (terminal 97 ∷ terminal 98 ∷ sequence 0 1 ∷ terminal 97 ∷ choice 2 3 ∷ [])
+table_n : List ℕ
+table_n = table (body 4) (terminal 97 ∷ terminal 98 ∷ sequence 0 1 ∷ terminal 97 ∷ choice 2 3 ∷ [])
 
 -- rule 0 calls itself
-tableO : List ℕ
-tableO = table (body 0) (call 0 ∷ [])
+table_o : List ℕ
+table_o = table (body 0) (call 0 ∷ [])
 
 -- ════ The cases ════
 
@@ -176,8 +176,8 @@ pub record Case : Type 0 where
 -- what the written meaning gives
 pub given : Case → Outcome
 given c =
-    let a = answer c.mode c.words [] c.message c.budget workWords in
-    record { answer = a; bytes = textBytes c.message [] a.value0; types = typeCheck c.words [] }
+    let a = answer c.mode c.words [] c.message c.budget work_words in
+    record { answer = a; bytes = text_bytes c.message [] a.value0; types = type_check c.words [] }
 
 abbrev pub typed : Answer → Outcome
 typed a = record { answer = a; bytes = []; types = Passed }
@@ -189,46 +189,46 @@ untyped a = record { answer = a; bytes = []; types = Untyped 0 }
 abbrev pub plenty : ℕ
 plenty = 4294967295
 
-abbrev pub no-values : List Value
-no-values = []
+abbrev pub no_values : List Value
+no_values = []
 
 abbrev pub x= : Value → List Value
 x= v = v ∷ []
 
 pub cases : List Case
 cases =
-    record { mode = Display; words = tableA; message = 71 ∷ 49 ∷ []; budget = 2; expected = record { answer = answered DONE 0 1 2 (x= (Val.Text (record { literal = false; start = 0; length = 1 }))); bytes = 71 ∷ []; types = Passed } }  -- A
-    ∷ record { mode = Display; words = tableA; message = []; budget = 2; expected = typed (answered NOMATCH 0 0 2 no-values) }  -- B
-    ∷ record { mode = Display; words = tableA; message = 71 ∷ 49 ∷ []; budget = 1; expected = typed (answered BUDGET 0 0 1 no-values) }  -- C
-    ∷ record { mode = Display; words = tableA; message = 71 ∷ 49 ∷ []; budget = 0; expected = typed (answered BUDGET 1 0 0 no-values) }  -- D
-    ∷ record { mode = Display; words = tableE; message = []; budget = plenty; expected = untyped (answered TYPE 0 0 0 no-values) }  -- E
-    ∷ record { mode = Bench; words = tableE; message = []; budget = plenty; expected = untyped (answered DONE 0 0 3 no-values) }  -- E, bench
-    ∷ record { mode = Display; words = tableF; message = 50 ∷ []; budget = plenty; expected = typed (answered DONE 0 1 6 (x= (Val.Integer (pos 2)))) }  -- F
-    ∷ record { mode = Display; words = tableG; message = 50 ∷ []; budget = plenty; expected = untyped (answered TYPE 0 0 0 no-values) }  -- G
-    ∷ record { mode = Bench; words = tableG; message = 50 ∷ []; budget = plenty; expected = untyped (answered STUCK 6 0 4 no-values) }  -- G, bench
-    ∷ record { mode = Display; words = tableH; message = []; budget = plenty; expected = typed (answered DONE 0 0 5 (x= (Val.Integer (pos 1)))) }  -- H
-    ∷ record { mode = Display; words = tableI; message = []; budget = 10; expected = typed (answered BUDGET 0 0 10 no-values) }  -- I
-    ∷ record { mode = Display; words = tableJ; message = []; budget = plenty; expected = typed (answered DONE 0 0 14 (x= (Val.Integer (pos 3)))) }  -- J
-    ∷ record { mode = Display; words = tableK; message = []; budget = plenty; expected = typed (answered FAULT 2 0 1 no-values) }  -- K
-    ∷ record { mode = Display; words = tableL; message = []; budget = plenty; expected = typed (answered DONE 0 0 1 (x= (Val.Integer (negsuc 2)))) }  -- L
-    ∷ record { mode = Display; words = tableM; message = []; budget = plenty; expected = typed (answered NOMATCH 0 0 1 no-values) }  -- M
-    ∷ record { mode = Display; words = tableN; message = 97 ∷ 99 ∷ []; budget = plenty; expected = typed (answered DONE 0 1 5 no-values) }  -- N
-    ∷ record { mode = Display; words = tableO; message = []; budget = 257; expected = typed (answered DEEP 0 0 256 no-values) }  -- O
-    ∷ record { mode = Display; words = tableO; message = []; budget = 256; expected = typed (answered BUDGET 0 0 256 no-values) }  -- O, a smaller budget
+    record { mode = Display; words = table_a; message = 71 ∷ 49 ∷ []; budget = 2; expected = record { answer = answered DONE 0 1 2 (x= (Val.Text (record { literal = false; start = 0; length = 1 }))); bytes = 71 ∷ []; types = Passed } }  -- A
+    ∷ record { mode = Display; words = table_a; message = []; budget = 2; expected = typed (answered NOMATCH 0 0 2 no_values) }  -- B
+    ∷ record { mode = Display; words = table_a; message = 71 ∷ 49 ∷ []; budget = 1; expected = typed (answered BUDGET 0 0 1 no_values) }  -- C
+    ∷ record { mode = Display; words = table_a; message = 71 ∷ 49 ∷ []; budget = 0; expected = typed (answered BUDGET 1 0 0 no_values) }  -- D
+    ∷ record { mode = Display; words = table_e; message = []; budget = plenty; expected = untyped (answered TYPE 0 0 0 no_values) }  -- E
+    ∷ record { mode = Bench; words = table_e; message = []; budget = plenty; expected = untyped (answered DONE 0 0 3 no_values) }  -- E, bench
+    ∷ record { mode = Display; words = table_f; message = 50 ∷ []; budget = plenty; expected = typed (answered DONE 0 1 6 (x= (Val.Integer (pos 2)))) }  -- F
+    ∷ record { mode = Display; words = table_g; message = 50 ∷ []; budget = plenty; expected = untyped (answered TYPE 0 0 0 no_values) }  -- G
+    ∷ record { mode = Bench; words = table_g; message = 50 ∷ []; budget = plenty; expected = untyped (answered STUCK 6 0 4 no_values) }  -- G, bench
+    ∷ record { mode = Display; words = table_h; message = []; budget = plenty; expected = typed (answered DONE 0 0 5 (x= (Val.Integer (pos 1)))) }  -- H
+    ∷ record { mode = Display; words = table_i; message = []; budget = 10; expected = typed (answered BUDGET 0 0 10 no_values) }  -- I
+    ∷ record { mode = Display; words = table_j; message = []; budget = plenty; expected = typed (answered DONE 0 0 14 (x= (Val.Integer (pos 3)))) }  -- J
+    ∷ record { mode = Display; words = table_k; message = []; budget = plenty; expected = typed (answered FAULT 2 0 1 no_values) }  -- K
+    ∷ record { mode = Display; words = table_l; message = []; budget = plenty; expected = typed (answered DONE 0 0 1 (x= (Val.Integer (negsuc 2)))) }  -- L
+    ∷ record { mode = Display; words = table_m; message = []; budget = plenty; expected = typed (answered NOMATCH 0 0 1 no_values) }  -- M
+    ∷ record { mode = Display; words = table_n; message = 97 ∷ 99 ∷ []; budget = plenty; expected = typed (answered DONE 0 1 5 no_values) }  -- N
+    ∷ record { mode = Display; words = table_o; message = []; budget = 257; expected = typed (answered DEEP 0 0 256 no_values) }  -- O
+    ∷ record { mode = Display; words = table_o; message = []; budget = 256; expected = typed (answered BUDGET 0 0 256 no_values) }  -- O, a smaller budget
     ∷ []
 
 pub bench : map given cases ≡ map (λ (c : Case). c.expected) cases
-unfolding given cases tableA tableE tableF tableG tableH tableI tableJ tableK tableL tableM tableN tableO tabulate smallestFailing howMany signed nodes nodeFor nodeAt node exprOf parsingOf exprWith exprAt parsingWith parsingAt ruleAt grammarOf F.fieldSorts F.fieldSort F.ruleSorts F.fits F.ruleWordOk F.nodeWordOk F.wordOk F.usesNode F.wordUses F.uses F.every F.sizeOk F.tableCheck same T.operatorType T.exprType T.has T.haveAll T.assign T.assignAll T.type_of T.typedAfter T.typedRule T.untyped L.fitting L.quotient L.calculated L.spanBytes L.textBytes L.sameTexts L.equal L.lookLeft L.operate L.negated R.eval R.evalAll R.next R.withValue R.judged R.fresh R.receive R.byteStands R.rounds R.due R.returning R.visit R.admit R.apply A.number A.place A.endingNumber A.typeRules typeCheck A.check A.run A.answer_of A.refusal A.conclude answer
+unfolding given cases table_a table_e table_f table_g table_h table_i table_j table_k table_l table_m table_n table_o tabulate smallest_failing how_many signed nodes node_for node_at node expr_of parsing_of expr_with expr_at parsing_with parsing_at rule_at grammar_of F.field_sorts F.field_sort F.rule_sorts F.fits F.rule_word_ok F.node_word_ok F.word_ok F.uses_node F.word_uses F.uses F.every F.size_ok F.table_check same T.operator_type T.expr_type T.has T.have_all T.assign T.assign_all T.type_of T.typed_after T.typed_rule T.untyped L.fitting L.quotient L.calculated L.span_bytes L.text_bytes L.same_texts L.equal L.look_left L.operate L.negated R.eval R.eval_all R.next R.with_value R.judged R.fresh R.receive R.byte_stands R.rounds R.due R.returning R.visit R.admit R.apply A.number A.place A.ending_number A.type_rules type_check A.check A.run A.answer_of A.refusal A.conclude answer
 bench = refl
 
 -- ════ 'smallest such rule' ════
 
 -- rule 0 is right, and rules 1 and 2 break the type rules: their constraints are Integers
-pub twoUntyped : List ℕ
-twoUntyped =
+pub two_untyped : List ℕ
+two_untyped =
     (3 ∷ 5 ∷ 0 ∷ [])
     ++ (records 15 (body 0 ∷ body 2 ∷ body 4 ∷ []) ++ records 10 (empty ∷ integer 0 1 ∷ constraint 1 ∷ integer 0 1 ∷ constraint 3 ∷ []))
 
-pub smallest-told : typeCheck twoUntyped [] ≡ Untyped 1
-unfolding twoUntyped tabulate smallestFailing howMany signed nodes nodeFor nodeAt exprOf parsingOf exprWith exprAt parsingWith parsingAt ruleAt grammarOf F.fieldSorts F.fieldSort F.ruleSorts F.fits F.ruleWordOk F.nodeWordOk F.wordOk F.usesNode F.wordUses F.uses F.every F.sizeOk F.tableCheck T.exprType T.has T.haveAll T.type_of T.typedAfter T.typedRule T.untyped A.typeRules typeCheck
-smallest-told = refl
+pub smallest_told : type_check two_untyped [] ≡ Untyped 1
+unfolding two_untyped tabulate smallest_failing how_many signed nodes node_for node_at expr_of parsing_of expr_with expr_at parsing_with parsing_at rule_at grammar_of F.field_sorts F.field_sort F.rule_sorts F.fits F.rule_word_ok F.node_word_ok F.word_ok F.uses_node F.word_uses F.uses F.every F.size_ok F.table_check T.expr_type T.has T.have_all T.type_of T.typed_after T.typed_rule T.untyped A.type_rules type_check
+smallest_told = refl

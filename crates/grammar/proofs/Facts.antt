@@ -8,13 +8,13 @@ use native.Mathlib.Omega.{arith}
 use lib.Dec.{leb, eqb}
 use lib.ListN.{get_or, length}
 use borrow.Author.Tests.{leb-true, eqb-true, lt-ltb, le-ltb}
-use Rattle.laws.specs.Counting.{smallestFailing}
-use Rattle.laws.specs.Smallest.{smallest-all}
+use Rattle.laws.specs.Counting.{smallest_failing}
+use Rattle.laws.specs.Smallest.{smallest_all}
 use Rattle.laws.specs.Tests.{both_left, both_right}
 use Rattle.grammar.specs.declared.Verdict.{Verdict}
 use Rattle.grammar.specs.declared.Verdict.TheVariants.{Passed, Size, Field, Use, Start, Untyped, Long, Work}
-use Rattle.grammar.specs.Words.{ruleCount, nodeCount, literalCount, ruleStart, nodeStart, inheritedCount}
-use Rattle.grammar.specs.Form.{ruleWordOk, nodeWordOk, wordOk, uses, every, sizeOk, followedBy, unlessOk, refusedAt, sizeCheck, fieldCheck, useCheck, startCheck, tableCheck}
+use Rattle.grammar.specs.Words.{rule_count, node_count, literal_count, rule_start, node_start, inherited_count}
+use Rattle.grammar.specs.Form.{rule_word_ok, node_word_ok, word_ok, uses, every, size_ok, followed_by, unless_ok, refused_at, size_check, field_check, use_check, start_check, table_check}
 
 -- ════ Checks that passed ════
 
@@ -29,110 +29,110 @@ Refused (Untyped r) = Unit {0}
 Refused Long = Unit {0}
 Refused Work = Unit {0}
 
-pub not-passed : {A : Type 0} (v : Verdict) → Refused v → v ≡ Passed → A
-not-passed v refused e = absurd (subst Refused e refused)
+pub not_passed : {A : Type 0} (v : Verdict) → Refused v → v ≡ Passed → A
+not_passed v refused e = absurd (subst Refused e refused)
 
-pub followedBy-passed : (v w : Verdict) → followedBy v w ≡ Passed → (v ≡ Passed) × (w ≡ Passed)
-followedBy-passed Passed w e = (refl, e)
-followedBy-passed Size w e = not-passed Size tt e
-followedBy-passed (Field i) w e = not-passed (Field i) tt e
-followedBy-passed (Use k) w e = not-passed (Use k) tt e
-followedBy-passed Start w e = not-passed Start tt e
-followedBy-passed (Untyped r) w e = not-passed (Untyped r) tt e
-followedBy-passed Long w e = not-passed Long tt e
-followedBy-passed Work w e = not-passed Work tt e
+pub followed_by_passed : (v w : Verdict) → followed_by v w ≡ Passed → (v ≡ Passed) × (w ≡ Passed)
+followed_by_passed Passed w e = (refl, e)
+followed_by_passed Size w e = not_passed Size tt e
+followed_by_passed (Field i) w e = not_passed (Field i) tt e
+followed_by_passed (Use k) w e = not_passed (Use k) tt e
+followed_by_passed Start w e = not_passed Start tt e
+followed_by_passed (Untyped r) w e = not_passed (Untyped r) tt e
+followed_by_passed Long w e = not_passed Long tt e
+followed_by_passed Work w e = not_passed Work tt e
 
-pub unlessOk-passed : (b : Bool) (v : Verdict) → Refused v → unlessOk b v ≡ Passed → b ≡ true
-unlessOk-passed true v refused e = refl
-unlessOk-passed false v refused e = not-passed v refused e
+pub unless_ok_passed : (b : Bool) (v : Verdict) → Refused v → unless_ok b v ≡ Passed → b ≡ true
+unless_ok_passed true v refused e = refl
+unless_ok_passed false v refused e = not_passed v refused e
 
-pub refusedAt-passed : (refusal : ℕ → Verdict) (o : Option ℕ) → ((i : ℕ) → Refused (refusal i)) → refusedAt refusal o ≡ Passed → o ≡ none
-refusedAt-passed refusal none refused e = refl
-refusedAt-passed refusal (some i) refused e = not-passed (refusal i) (refused i) e
+pub refused_at_passed : (refusal : ℕ → Verdict) (o : Option ℕ) → ((i : ℕ) → Refused (refusal i)) → refused_at refusal o ≡ Passed → o ≡ none
+refused_at_passed refusal none refused e = refl
+refused_at_passed refusal (some i) refused e = not_passed (refusal i) (refused i) e
 
 -- ════ A table that passes SIZE and FIELD ════
 
 pub record SoundTable (words literals : List ℕ) : Type 0 where
-  pub size : sizeCheck words literals ≡ Passed
-  pub field : fieldCheck words ≡ Passed
+  pub size : size_check words literals ≡ Passed
+  pub field : field_check words ≡ Passed
 
 module _ (words literals : List ℕ) where
-  module _ (passed : tableCheck words literals ≡ Passed) where
-    checks-passed : (sizeCheck words literals ≡ Passed) × (fieldCheck words ≡ Passed) × (useCheck words ≡ Passed) × (startCheck words ≡ Passed)
-    unfolding tableCheck
-    checks-passed =
-        let a = followedBy-passed (sizeCheck words literals) (followedBy (fieldCheck words) (followedBy (useCheck words) (startCheck words))) passed in
-        let b = followedBy-passed (fieldCheck words) (followedBy (useCheck words) (startCheck words)) a.1 in
-        let c = followedBy-passed (useCheck words) (startCheck words) b.1 in
+  module _ (passed : table_check words literals ≡ Passed) where
+    checks_passed : (size_check words literals ≡ Passed) × (field_check words ≡ Passed) × (use_check words ≡ Passed) × (start_check words ≡ Passed)
+    unfolding table_check
+    checks_passed =
+        let a = followed_by_passed (size_check words literals) (followed_by (field_check words) (followed_by (use_check words) (start_check words))) passed in
+        let b = followed_by_passed (field_check words) (followed_by (use_check words) (start_check words)) a.1 in
+        let c = followed_by_passed (use_check words) (start_check words) b.1 in
         (a.0, b.0, c.0, c.1)
 
-    pub sound-of-form : SoundTable words literals
-    sound-of-form = record { size = checks-passed.0; field = checks-passed.1 }
+    pub sound_of_form : SoundTable words literals
+    sound_of_form = record { size = checks_passed.0; field = checks_passed.1 }
 
     -- 'Each node is used exactly once'
-    pub used-once : (k : ℕ) → k < nodeCount words → uses words k ≡ 1
-    used-once k h = eqb-true (uses words k) 1 (smallest-all (λ n. eqb (uses words n) 1) 0 (nodeCount words)
-        (refusedAt-passed Use (smallestFailing (λ n. eqb (uses words n) 1) 0 (nodeCount words)) (λ _. tt) checks-passed.2) k (omega arith) (omega arith))
+    pub used_once : (k : ℕ) → k < node_count words → uses words k ≡ 1
+    used_once k h = eqb-true (uses words k) 1 (smallest_all (λ n. eqb (uses words n) 1) 0 (node_count words)
+        (refused_at_passed Use (smallest_failing (λ n. eqb (uses words n) 1) 0 (node_count words)) (λ _. tt) checks_passed.2) k (omega arith) (omega arith))
 
     -- rule 0 inherits nothing
-    pub start-inherits-none : inheritedCount words 0 ≡ 0
-    start-inherits-none = eqb-true (inheritedCount words 0) 0 (unlessOk-passed (eqb (inheritedCount words 0) 0) Start tt checks-passed.3)
+    pub start_inherits_none : inherited_count words 0 ≡ 0
+    start_inherits_none = eqb-true (inherited_count words 0) 0 (unless_ok_passed (eqb (inherited_count words 0) 0) Start tt checks_passed.3)
 
 -- ════ Sizes ════
 
-every-at : (ts : List Bool) → every ts ≡ true → (i : ℕ) → get_or ts i true ≡ true
+every_at : (ts : List Bool) → every ts ≡ true → (i : ℕ) → get_or ts i true ≡ true
 unfolding every
-every-at [] e i = refl
-every-at (t ∷ ts) e zero = both_left t (every ts) e
-every-at (t ∷ ts) e (suc i) = every-at ts (both_right t (every ts) e) i
+every_at [] e i = refl
+every_at (t ∷ ts) e zero = both_left t (every ts) e
+every_at (t ∷ ts) e (suc i) = every_at ts (both_right t (every ts) e) i
 
 pub record Sizes (words literals : List ℕ) : Type 0 where
-  pub some-rule : 1 ≤ ruleCount words
-  pub most-rules : ruleCount words ≤ 64
-  pub some-node : 1 ≤ nodeCount words
-  pub most-nodes : nodeCount words ≤ 1024
-  pub most-literals : literalCount words ≤ 4096
-  pub words-length : length words ≡ 3 + 15 * ruleCount words + 10 * nodeCount words
-  pub literals-length : length literals ≡ literalCount words
+  pub some_rule : 1 ≤ rule_count words
+  pub most_rules : rule_count words ≤ 64
+  pub some_node : 1 ≤ node_count words
+  pub most_nodes : node_count words ≤ 1024
+  pub most_literals : literal_count words ≤ 4096
+  pub words_length : length words ≡ 3 + 15 * rule_count words + 10 * node_count words
+  pub literals_length : length literals ≡ literal_count words
 
 pub sizes : (words literals : List ℕ) → SoundTable words literals → Sizes words literals
-unfolding sizeOk
+unfolding size_ok
 sizes words literals table =
-    let test = every-at (leb 3 (length words)
-    ∷ leb 1 (ruleCount words) ∷ leb (ruleCount words) 64
-    ∷ leb 1 (nodeCount words) ∷ leb (nodeCount words) 1024
-    ∷ leb (literalCount words) 4096
-    ∷ eqb (length words) (3 + 15 * ruleCount words + 10 * nodeCount words)
-    ∷ eqb (length literals) (literalCount words)
-    ∷ []) (unlessOk-passed (sizeOk words (length literals)) Size tt table.size) in
+    let test = every_at (leb 3 (length words)
+    ∷ leb 1 (rule_count words) ∷ leb (rule_count words) 64
+    ∷ leb 1 (node_count words) ∷ leb (node_count words) 1024
+    ∷ leb (literal_count words) 4096
+    ∷ eqb (length words) (3 + 15 * rule_count words + 10 * node_count words)
+    ∷ eqb (length literals) (literal_count words)
+    ∷ []) (unless_ok_passed (size_ok words (length literals)) Size tt table.size) in
     record {
-      some-rule = leb-true 1 (ruleCount words) (test 1);
-      most-rules = leb-true (ruleCount words) 64 (test 2);
-      some-node = leb-true 1 (nodeCount words) (test 3);
-      most-nodes = leb-true (nodeCount words) 1024 (test 4);
-      most-literals = leb-true (literalCount words) 4096 (test 5);
-      words-length = eqb-true (length words) (3 + 15 * ruleCount words + 10 * nodeCount words) (test 6);
-      literals-length = eqb-true (length literals) (literalCount words) (test 7);
+      some_rule = leb-true 1 (rule_count words) (test 1);
+      most_rules = leb-true (rule_count words) 64 (test 2);
+      some_node = leb-true 1 (node_count words) (test 3);
+      most_nodes = leb-true (node_count words) 1024 (test 4);
+      most_literals = leb-true (literal_count words) 4096 (test 5);
+      words_length = eqb-true (length words) (3 + 15 * rule_count words + 10 * node_count words) (test 6);
+      literals_length = eqb-true (length literals) (literal_count words) (test 7);
     }
 
 -- ════ Each word of each record passes its test ════
 
 module _ (words literals : List ℕ) (table : SoundTable words literals) where
-  word-passes : (i : ℕ) → 3 ≤ i → i < length words → wordOk words i ≡ true
-  word-passes i low high = smallest-all (wordOk words) 3 _ (refusedAt-passed Field _ (λ _. tt) table.field) i low (omega arith)
+  word_passes : (i : ℕ) → 3 ≤ i → i < length words → word_ok words i ≡ true
+  word_passes i low high = smallest_all (word_ok words) 3 _ (refused_at_passed Field _ (λ _. tt) table.field) i low (omega arith)
 
-  pub rule-word : (r j : ℕ) → r < ruleCount words → j < 15 → ruleWordOk words r j ≡ true
-  unfolding wordOk
-  rule-word r j hr hj =
+  pub rule_word_lem : (r j : ℕ) → r < rule_count words → j < 15 → rule_word_ok words r j ≡ true
+  unfolding word_ok
+  rule_word_lem r j hr hj =
       let size = sizes words literals table in
-      let q : (ruleStart r + j - 3) / 15 ≡ r = omega arith in
-      let m : (ruleStart r + j - 3) % 15 ≡ j = omega arith in
-      rw (lt-ltb (ruleStart r + j) (nodeStart words 0) (omega arith), q, m) at (word-passes (ruleStart r + j) (omega arith) (omega arith))
+      let q : (rule_start r + j - 3) / 15 ≡ r = omega arith in
+      let m : (rule_start r + j - 3) % 15 ≡ j = omega arith in
+      rw (lt-ltb (rule_start r + j) (node_start words 0) (omega arith), q, m) at (word_passes (rule_start r + j) (omega arith) (omega arith))
 
-  pub node-word : (k j : ℕ) → k < nodeCount words → j < 10 → nodeWordOk words k j ≡ true
-  unfolding wordOk
-  node-word k j hk hj =
+  pub node_word_lem : (k j : ℕ) → k < node_count words → j < 10 → node_word_ok words k j ≡ true
+  unfolding word_ok
+  node_word_lem k j hk hj =
       let size = sizes words literals table in
-      let q : (nodeStart words k + j - nodeStart words 0) / 10 ≡ k = omega arith in
-      let m : (nodeStart words k + j - nodeStart words 0) % 10 ≡ j = omega arith in
-      rw (le-ltb (nodeStart words k + j) (nodeStart words 0) (omega arith), q, m) at (word-passes (nodeStart words k + j) (omega arith) (omega arith))
+      let q : (node_start words k + j - node_start words 0) / 10 ≡ k = omega arith in
+      let m : (node_start words k + j - node_start words 0) % 10 ≡ j = omega arith in
+      rw (le-ltb (node_start words k + j) (node_start words 0) (omega arith), q, m) at (word_passes (node_start words k + j) (omega arith) (omega arith))

@@ -19,10 +19,10 @@ use Rattle.grammar.specs.declared.Span.{Span}
 use Rattle.grammar.specs.declared.Value.{Value}
 use Rattle.grammar.specs.declared.Value.TheVariants as Val
 use Rattle.grammar.specs.Tree.{Expr, bool, integer, text, slot, binary, negation}
-use Rattle.grammar.specs.Tree.{Parsing, empty, terminal, sequence, choice, repeat, unless, call, bind, update, constraint, Grammar, ruleOf}
-use Rattle.grammar.specs.Values.{Evaluated, value, ends, after, wantInteger, wantBool, wantText, present, number_at, calculated, equal, lookLeft, operate, negated}
-use Rattle.grammar.specs.Run.{Slots, Setting, Tally, counted, eval, evalAll, Applied, matched, failed, ended, outOfFuel, next, givingBack, onward, withValue}
-use Rattle.grammar.specs.Run.{judged, fresh, receive, messagePart, byteStands, Application, rounds, Due, fine, noBudget, tooDeep, due, returning, visit, admit, apply}
+use Rattle.grammar.specs.Tree.{Parsing, empty, terminal, sequence, choice, repeat, unless, call, bind, update, constraint, Grammar, rule_of}
+use Rattle.grammar.specs.Values.{Evaluated, value, ends, after, want_integer, want_bool, want_text, present, number_at, calculated, equal, look_left, operate, negated}
+use Rattle.grammar.specs.Run.{Slots, Setting, Tally, counted, eval, eval_all, Applied, matched, failed, ended, out_of_fuel, next, giving_back, onward, with_value}
+use Rattle.grammar.specs.Run.{judged, fresh, receive, message_part, byte_stands, Application, rounds, Due, fine, no_budget, too_deep, due, returning, visit, admit, apply}
 
 -- ════ Good values ════
 
@@ -31,7 +31,7 @@ pub record Goods (message : List ℕ) (Good : Value → Type 0) : Type 0 where
   pub absent : Good Val.Absent
   pub bool : (b : Bool) → Good (Val.Bool b)
   pub integer : (z : ℤ) → Good (Val.Integer z)
-  pub part : (from to : ℕ) → from ≤ to → to ≤ length message → Good (messagePart from to)
+  pub part : (from to : ℕ) → from ≤ to → to ≤ length message → Good (message_part from to)
 
 module _ (Good : Value → Type 0) where
   abbrev pub AllGood : List Value → Type 0
@@ -64,8 +64,8 @@ module _ (Good : Value → Type 0) where
   NodeTextsGood (constraint k e) = TextsGood e
 
   pub record GrammarGood (G : Grammar) : Type 0 where
-    pub body : (r : ℕ) → NodeTextsGood (ruleOf G r).body
-    pub returned : (r : ℕ) → AllTextsGood (ruleOf G r).returned
+    pub body : (r : ℕ) → NodeTextsGood (rule_of G r).body
+    pub returned : (r : ℕ) → AllTextsGood (rule_of G r).returned
 
 -- ════ What is kept ════
 
@@ -77,14 +77,14 @@ pub record Held (Good : Value → Type 0) (n : ℕ) (slots : Slots) : Type 0 whe
 -- a value with the property, or the run ends
 pub data Gives {A : Type 0} (P : A → Type 0) : Evaluated A → Type 0 where
   gives : {a : A} → P a → Gives P (value a)
-  ends-here : {why : Ending} {k : ℕ} → Gives P (ends why k)
+  ends_here : {why : Ending} {k : ℕ} → Gives P (ends why k)
 
 -- What comes of a node that began at a position with n slots: a match stands no earlier, and not past the message
 pub data Inside (message : List ℕ) (Good : Value → Type 0) (from n : ℕ) : Applied → Type 0 where
-  inside-matched : {at : ℕ} {slots : Slots} {t : Tally} → (from ≤ at) × (at ≤ length message) → Held Good n slots → Inside message Good from n (matched at slots t)
-  inside-failed : {slots : Slots} {t : Tally} → Held Good n slots → Inside message Good from n (failed slots t)
-  inside-ended : {why : Ending} {place : ℕ} {t : Tally} → Inside message Good from n (ended why place t)
-  inside-out : Inside message Good from n outOfFuel
+  inside_matched : {at : ℕ} {slots : Slots} {t : Tally} → (from ≤ at) × (at ≤ length message) → Held Good n slots → Inside message Good from n (matched at slots t)
+  inside_failed : {slots : Slots} {t : Tally} → Held Good n slots → Inside message Good from n (failed slots t)
+  inside_ended : {why : Ending} {place : ℕ} {t : Tally} → Inside message Good from n (ended why place t)
+  inside_out : Inside message Good from n out_of_fuel
 
 -- an application keeps it
 abbrev pub InsideApplication : (message : List ℕ) (Good : Value → Type 0) → Application → Type 0
@@ -100,228 +100,228 @@ module _ (S : Setting) (Good : Value → Type 0) (goods : Goods S.message Good) 
 
   -- ════ Slots ════
 
-  pub good-at : (vs : List Value) → AllGood Good vs → (i : ℕ) → Good (get_or vs i Val.Absent)
-  good-at [] h i = goods.absent
-  good-at (v ∷ vs) h zero = h.0
-  good-at (v ∷ vs) h (suc i) = good-at vs h.1 i
+  pub good_at : (vs : List Value) → AllGood Good vs → (i : ℕ) → Good (get_or vs i Val.Absent)
+  good_at [] h i = goods.absent
+  good_at (v ∷ vs) h zero = h.0
+  good_at (v ∷ vs) h (suc i) = good_at vs h.1 i
 
-  good-set : (vs : List Value) (s : ℕ) (v : Value) → AllGood Good vs → Good v → AllGood Good (set vs s v)
-  good-set [] s v h g = h
-  good-set (x ∷ xs) zero v h g = (g, h.1)
-  good-set (x ∷ xs) (suc s) v h g = (h.0, good-set xs s v h.1 g)
+  good_set : (vs : List Value) (s : ℕ) (v : Value) → AllGood Good vs → Good v → AllGood Good (set vs s v)
+  good_set [] s v h g = h
+  good_set (x ∷ xs) zero v h g = (g, h.1)
+  good_set (x ∷ xs) (suc s) v h g = (h.0, good_set xs s v h.1 g)
 
-  absents-good : (n : ℕ) → AllGood Good (replicate n Val.Absent)
-  absents-good zero = tt
-  absents-good (suc n) = (goods.absent, absents-good n)
+  absents_good : (n : ℕ) → AllGood Good (replicate n Val.Absent)
+  absents_good zero = tt
+  absents_good (suc n) = (goods.absent, absents_good n)
 
-  append-good : (vs ws : List Value) → AllGood Good vs → AllGood Good ws → AllGood Good (vs ++ ws)
-  append-good [] ws h g = g
-  append-good (v ∷ vs) ws h g = (h.0, append-good vs ws h.1 g)
+  append_good : (vs ws : List Value) → AllGood Good vs → AllGood Good ws → AllGood Good (vs ++ ws)
+  append_good [] ws h g = g
+  append_good (v ∷ vs) ws h g = (h.0, append_good vs ws h.1 g)
 
-  pub fresh-good : (vs : List Value) → AllGood Good vs → AllGood Good (fresh vs)
+  pub fresh_good : (vs : List Value) → AllGood Good vs → AllGood Good (fresh vs)
   unfolding fresh
-  fresh-good vs h = append-good vs (replicate (16 - length vs) Val.Absent) h (absents-good (16 - length vs))
+  fresh_good vs h = append_good vs (replicate (16 - length vs) Val.Absent) h (absents_good (16 - length vs))
 
-  set-held : {n : ℕ} (slots : Slots) (s : ℕ) (v : Value) → Held Good n slots → Good v → Held Good n (set slots s v)
-  set-held slots s v h g = record { number = length-set slots s v ∙ h.number; good = good-set slots s v h.good g }
+  set_held : {n : ℕ} (slots : Slots) (s : ℕ) (v : Value) → Held Good n slots → Good v → Held Good n (set slots s v)
+  set_held slots s v h g = record { number = length-set slots s v ∙ h.number; good = good_set slots s v h.good g }
 
-  receive-held : {n : ℕ} (slots : Slots) (ss : List ℕ) (vs : List Value) → Held Good n slots → AllGood Good vs → Held Good n (receive slots ss vs)
+  receive_held : {n : ℕ} (slots : Slots) (ss : List ℕ) (vs : List Value) → Held Good n slots → AllGood Good vs → Held Good n (receive slots ss vs)
   unfolding receive
-  receive-held slots [] vs h g = h
-  receive-held slots (s ∷ ss) [] h g = h
-  receive-held slots (s ∷ ss) (v ∷ vs) h g = receive-held (set slots s v) ss vs (set-held slots s v h g.0) g.1
+  receive_held slots [] vs h g = h
+  receive_held slots (s ∷ ss) [] h g = h
+  receive_held slots (s ∷ ss) (v ∷ vs) h g = receive_held (set slots s v) ss vs (set_held slots s v h g.0) g.1
 
   -- ════ Expressions ════
 
-  after-gives : {A B : Type 0} {P : A → Type 0} {Q : B → Type 0} {e : Evaluated A} {f : A → Evaluated B} →
+  after_gives : {A B : Type 0} {P : A → Type 0} {Q : B → Type 0} {e : Evaluated A} {f : A → Evaluated B} →
       Gives P e → ((a : A) → P a → Gives Q (f a)) → Gives Q (after e f)
-  after-gives (gives {a = v} p) h = h v p
-  after-gives ends-here h = ends-here
+  after_gives (gives {a = v} p) h = h v p
+  after_gives ends_here h = ends_here
 
-  truth-gives : (b : Bool) → Gets (value (Val.Bool b))
-  truth-gives b = gives (goods.bool b)
+  truth_gives : (b : Bool) → Gets (value (Val.Bool b))
+  truth_gives b = gives (goods.bool b)
 
-  wantInteger-gives : (k : ℕ) (v : Value) {f : ℤ → Evaluated Value} → ((z : ℤ) → Gets (f z)) → Gets (wantInteger k v f)
-  wantInteger-gives k Val.Absent h = ends-here
-  wantInteger-gives k (Val.Bool b) h = ends-here
-  wantInteger-gives k (Val.Integer z) h = h z
-  wantInteger-gives k (Val.Text s) h = ends-here
+  want_integer_gives : (k : ℕ) (v : Value) {f : ℤ → Evaluated Value} → ((z : ℤ) → Gets (f z)) → Gets (want_integer k v f)
+  want_integer_gives k Val.Absent h = ends_here
+  want_integer_gives k (Val.Bool b) h = ends_here
+  want_integer_gives k (Val.Integer z) h = h z
+  want_integer_gives k (Val.Text s) h = ends_here
 
-  wantBool-gives : (k : ℕ) (v : Value) {f : Bool → Evaluated Value} → ((b : Bool) → Gets (f b)) → Gets (wantBool k v f)
-  wantBool-gives k Val.Absent h = ends-here
-  wantBool-gives k (Val.Bool b) h = h b
-  wantBool-gives k (Val.Integer z) h = ends-here
-  wantBool-gives k (Val.Text s) h = ends-here
+  want_bool_gives : (k : ℕ) (v : Value) {f : Bool → Evaluated Value} → ((b : Bool) → Gets (f b)) → Gets (want_bool k v f)
+  want_bool_gives k Val.Absent h = ends_here
+  want_bool_gives k (Val.Bool b) h = h b
+  want_bool_gives k (Val.Integer z) h = ends_here
+  want_bool_gives k (Val.Text s) h = ends_here
 
-  wantText-gives : (k : ℕ) (v : Value) {f : Span → Evaluated Value} → ((s : Span) → Gets (f s)) → Gets (wantText k v f)
-  wantText-gives k Val.Absent h = ends-here
-  wantText-gives k (Val.Bool b) h = ends-here
-  wantText-gives k (Val.Integer z) h = ends-here
-  wantText-gives k (Val.Text s) h = h s
+  want_text_gives : (k : ℕ) (v : Value) {f : Span → Evaluated Value} → ((s : Span) → Gets (f s)) → Gets (want_text k v f)
+  want_text_gives k Val.Absent h = ends_here
+  want_text_gives k (Val.Bool b) h = ends_here
+  want_text_gives k (Val.Integer z) h = ends_here
+  want_text_gives k (Val.Text s) h = h s
 
-  present-gives : (k : ℕ) (v : Value) → Good v → Gets (present k v)
-  present-gives k Val.Absent g = ends-here
-  present-gives k (Val.Bool b) g = gives g
-  present-gives k (Val.Integer z) g = gives g
-  present-gives k (Val.Text s) g = gives g
+  present_gives : (k : ℕ) (v : Value) → Good v → Gets (present k v)
+  present_gives k Val.Absent g = ends_here
+  present_gives k (Val.Bool b) g = gives g
+  present_gives k (Val.Integer z) g = gives g
+  present_gives k (Val.Text s) g = gives g
 
-  numberAt-gives : (k : ℕ) (n : Number) → Gets (number_at k n)
-  numberAt-gives k (Is z) = gives (goods.integer z)
-  numberAt-gives k (Not why) = ends-here
+  number_at_gives : (k : ℕ) (n : Number) → Gets (number_at k n)
+  number_at_gives k (Is z) = gives (goods.integer z)
+  number_at_gives k (Not why) = ends_here
 
-  cond-gives : (b : Bool) {x y : Evaluated Value} → Gets x → Gets y → Gets (cond b x y)
-  cond-gives true g h = g
-  cond-gives false g h = h
+  cond_gives : (b : Bool) {x y : Evaluated Value} → Gets x → Gets y → Gets (cond b x y)
+  cond_gives true g h = g
+  cond_gives false g h = h
 
-  equal-gives : (k : ℕ) (v w : Value) → Gets (equal S.message S.literals k v w)
+  equal_gives : (k : ℕ) (v w : Value) → Gets (equal S.message S.literals k v w)
   unfolding equal
-  equal-gives k Val.Absent w = ends-here
-  equal-gives k (Val.Bool a) w = wantBool-gives k w (λ _. truth-gives _)
-  equal-gives k (Val.Integer a) w = wantInteger-gives k w (λ _. truth-gives _)
-  equal-gives k (Val.Text a) w = wantText-gives k w (λ _. truth-gives _)
+  equal_gives k Val.Absent w = ends_here
+  equal_gives k (Val.Bool a) w = want_bool_gives k w (λ _. truth_gives _)
+  equal_gives k (Val.Integer a) w = want_integer_gives k w (λ _. truth_gives _)
+  equal_gives k (Val.Text a) w = want_text_gives k w (λ _. truth_gives _)
 
-  operate-gives : (op : Operator) (k : ℕ) (v w : Value) → Gets (operate S.message S.literals op k v w)
+  operate_gives : (op : Operator) (k : ℕ) (v w : Value) → Gets (operate S.message S.literals op k v w)
   unfolding operate
-  operate-gives (Calculate op) k v w = wantInteger-gives k v (λ a. wantInteger-gives k w (λ b. numberAt-gives k (calculated op a b)))
-  operate-gives Equal k v w = equal-gives k v w
-  operate-gives Greater k v w = wantInteger-gives k v (λ _. wantInteger-gives k w (λ _. truth-gives _))
-  operate-gives And k v w = wantBool-gives k w truth-gives
-  operate-gives Or k v w = wantBool-gives k w truth-gives
+  operate_gives (Calculate op) k v w = want_integer_gives k v (λ a. want_integer_gives k w (λ b. number_at_gives k (calculated op a b)))
+  operate_gives Equal k v w = equal_gives k v w
+  operate_gives Greater k v w = want_integer_gives k v (λ _. want_integer_gives k w (λ _. truth_gives _))
+  operate_gives And k v w = want_bool_gives k w truth_gives
+  operate_gives Or k v w = want_bool_gives k w truth_gives
 
-  lookLeft-gives : (op : Operator) (k : ℕ) (v : Value) {rest : Evaluated Value} → Gets rest → Gets (lookLeft S.message S.literals op k v rest)
-  unfolding lookLeft
-  lookLeft-gives (Calculate op) k v g = g
-  lookLeft-gives Equal k v g = g
-  lookLeft-gives Greater k v g = g
-  lookLeft-gives And k v g = wantBool-gives k v (λ b. cond-gives b g (truth-gives false))
-  lookLeft-gives Or k v g = wantBool-gives k v (λ b. cond-gives b (truth-gives true) g)
+  look_left_gives : (op : Operator) (k : ℕ) (v : Value) {rest : Evaluated Value} → Gets rest → Gets (look_left S.message S.literals op k v rest)
+  unfolding look_left
+  look_left_gives (Calculate op) k v g = g
+  look_left_gives Equal k v g = g
+  look_left_gives Greater k v g = g
+  look_left_gives And k v g = want_bool_gives k v (λ b. cond_gives b g (truth_gives false))
+  look_left_gives Or k v g = want_bool_gives k v (λ b. cond_gives b (truth_gives true) g)
 
   module _ (slots : Slots) (h : AllGood Good slots) where
-    eval-gives : (e : Expr) → TextsGood Good e → Gets (eval S slots e)
+    eval_gives : (e : Expr) → TextsGood Good e → Gets (eval S slots e)
     unfolding eval negated
-    eval-gives (bool k b) g = truth-gives b
-    eval-gives (integer k z) g = gives (goods.integer z)
-    eval-gives (text k start length) g = gives g
-    eval-gives (slot k s) g = present-gives k (get_or slots s Val.Absent) (good-at slots h s)
-    eval-gives (binary k op e f) g =
-        after-gives (eval-gives e g.0) (λ v _. lookLeft-gives op k v (after-gives (eval-gives f g.1) (λ w _. operate-gives op k v w)))
-    eval-gives (negation k e) g = after-gives (eval-gives e g) (λ v _. wantBool-gives k v (λ _. truth-gives _))
+    eval_gives (bool k b) g = truth_gives b
+    eval_gives (integer k z) g = gives (goods.integer z)
+    eval_gives (text k start length) g = gives g
+    eval_gives (slot k s) g = present_gives k (get_or slots s Val.Absent) (good_at slots h s)
+    eval_gives (binary k op e f) g =
+        after_gives (eval_gives e g.0) (λ v _. look_left_gives op k v (after_gives (eval_gives f g.1) (λ w _. operate_gives op k v w)))
+    eval_gives (negation k e) g = after_gives (eval_gives e g) (λ v _. want_bool_gives k v (λ _. truth_gives _))
 
-    pub evalAll-gives : (es : List Expr) → AllTextsGood Good es → Gives (AllGood Good) (evalAll S slots es)
-    unfolding evalAll
-    evalAll-gives [] g = gives tt
-    evalAll-gives (e ∷ es) g = after-gives (eval-gives e g.0) (λ v p. after-gives (evalAll-gives es g.1) (λ vs q. gives (p, q)))
+    pub eval_all_gives : (es : List Expr) → AllTextsGood Good es → Gives (AllGood Good) (eval_all S slots es)
+    unfolding eval_all
+    eval_all_gives [] g = gives tt
+    eval_all_gives (e ∷ es) g = after_gives (eval_gives e g.0) (λ v p. after_gives (eval_all_gives es g.1) (λ vs q. gives (p, q)))
 
   -- ════ Applying a parsing node ════
 
-  next-keeps : {from₁ n₁ from n : ℕ} {r : Applied} {m : ℕ → Slots → Tally → Applied} {f : Slots → Tally → Applied} → Keeps from₁ n₁ r →
+  next_keeps : {from₁ n₁ from n : ℕ} {r : Applied} {m : ℕ → Slots → Tally → Applied} {f : Slots → Tally → Applied} → Keeps from₁ n₁ r →
       ((at : ℕ) (slots : Slots) (t : Tally) → (from₁ ≤ at) × (at ≤ length S.message) → Held Good n₁ slots → Keeps from n (m at slots t)) →
       ((slots : Slots) (t : Tally) → Held Good n₁ slots → Keeps from n (f slots t)) →
       Keeps from n (next r m f)
   unfolding next
-  next-keeps (inside-matched {at = at} {slots = s} {t = t} c h) m f = m at s t c h
-  next-keeps (inside-failed {slots = s} {t = t} h) m f = f s t h
-  next-keeps inside-ended m f = inside-ended
-  next-keeps inside-out m f = inside-out
+  next_keeps (inside_matched {at = at} {slots = s} {t = t} c h) m f = m at s t c h
+  next_keeps (inside_failed {slots = s} {t = t} h) m f = f s t h
+  next_keeps inside_ended m f = inside_ended
+  next_keeps inside_out m f = inside_out
 
   -- what came later came no earlier
   earlier : {from at n m : ℕ} {r : Applied} → from ≤ at → m ≡ n → Keeps at m r → Keeps from n r
-  earlier l e (inside-matched {at = at₁} c h) = inside-matched {at = at₁} (omega arith) (record { number = h.number ∙ e; good = h.good })
-  earlier l e (inside-failed h) = inside-failed (record { number = h.number ∙ e; good = h.good })
-  earlier l e inside-ended = inside-ended
-  earlier l e inside-out = inside-out
+  earlier l e (inside_matched {at = at₁} c h) = inside_matched {at = at₁} (omega arith) (record { number = h.number ∙ e; good = h.good })
+  earlier l e (inside_failed h) = inside_failed (record { number = h.number ∙ e; good = h.good })
+  earlier l e inside_ended = inside_ended
+  earlier l e inside_out = inside_out
 
   as_lent : (slots : Slots) → AllGood Good slots → Held Good (length slots) slots
   as_lent slots h = record { number = refl; good = h }
 
-  givingBack-keeps : {from : ℕ} {r : Applied} (slots : Slots) → AllGood Good slots → Keeps from (length slots) r → Keeps from (length slots) (givingBack slots r)
-  givingBack-keeps slots h k = next-keeps k (λ _ _ _ c g. inside-matched c g) (λ _ _ _. inside-failed (as_lent slots h))
+  giving_back_keeps : {from : ℕ} {r : Applied} (slots : Slots) → AllGood Good slots → Keeps from (length slots) r → Keeps from (length slots) (giving_back slots r)
+  giving_back_keeps slots h k = next_keeps k (λ _ _ _ c g. inside_matched c g) (λ _ _ _. inside_failed (as_lent slots h))
 
   -- first one part, then another; the slots given back are those of the start, whichever failed
-  onward-keeps : {from₁ n₁ from : ℕ} {r : Applied} {m : ℕ → Slots → Tally → Applied} (slots : Slots) → AllGood Good slots → Keeps from₁ n₁ r →
+  onward_keeps : {from₁ n₁ from : ℕ} {r : Applied} {m : ℕ → Slots → Tally → Applied} (slots : Slots) → AllGood Good slots → Keeps from₁ n₁ r →
       ((at : ℕ) (slots₁ : Slots) (t : Tally) → (from₁ ≤ at) × (at ≤ length S.message) → Held Good n₁ slots₁ → Keeps from (length slots) (m at slots₁ t)) →
-      Keeps from (length slots) (givingBack slots (onward r m))
+      Keeps from (length slots) (giving_back slots (onward r m))
   unfolding next
-  onward-keeps slots h (inside-matched {at = at} {slots = s} {t = t} c g) m = givingBack-keeps slots h (m at s t c g)
-  onward-keeps slots h (inside-failed g) m = inside-failed (as_lent slots h)
-  onward-keeps slots h inside-ended m = inside-ended
-  onward-keeps slots h inside-out m = inside-out
+  onward_keeps slots h (inside_matched {at = at} {slots = s} {t = t} c g) m = giving_back_keeps slots h (m at s t c g)
+  onward_keeps slots h (inside_failed g) m = inside_failed (as_lent slots h)
+  onward_keeps slots h inside_ended m = inside_ended
+  onward_keeps slots h inside_out m = inside_out
 
-  withValue-keeps : {A : Type 0} {P : A → Type 0} {from n : ℕ} {e : Evaluated A} (t : Tally) {f : A → Applied} → Gives P e →
-      ((a : A) → P a → Keeps from n (f a)) → Keeps from n (withValue e t f)
-  unfolding withValue
-  withValue-keeps t (gives {a = v} p) h = h v p
-  withValue-keeps t ends-here h = inside-ended
+  with_value_keeps : {A : Type 0} {P : A → Type 0} {from n : ℕ} {e : Evaluated A} (t : Tally) {f : A → Applied} → Gives P e →
+      ((a : A) → P a → Keeps from n (f a)) → Keeps from n (with_value e t f)
+  unfolding with_value
+  with_value_keeps t (gives {a = v} p) h = h v p
+  with_value_keeps t ends_here h = inside_ended
 
-  cond-keeps : {from n : ℕ} (b : Bool) {x y : Applied} → (b ≡ true → Keeps from n x) → Keeps from n y → Keeps from n (cond b x y)
-  cond-keeps true g h = g refl
-  cond-keeps false g h = h
+  cond_keeps : {from n : ℕ} (b : Bool) {x y : Applied} → (b ≡ true → Keeps from n x) → Keeps from n y → Keeps from n (cond b x y)
+  cond_keeps true g h = g refl
+  cond_keeps false g h = h
 
-  judged-keeps : {n : ℕ} (k : ℕ) (v : Value) (at : ℕ) (slots : Slots) (t : Tally) → at ≤ length S.message → Held Good n slots → Keeps at n (judged k v at slots t)
+  judged_keeps : {n : ℕ} (k : ℕ) (v : Value) (at : ℕ) (slots : Slots) (t : Tally) → at ≤ length S.message → Held Good n slots → Keeps at n (judged k v at slots t)
   unfolding judged
-  judged-keeps k Val.Absent at slots t l h = inside-ended
-  judged-keeps k (Val.Bool b) at slots t l h = cond-keeps b (λ _. inside-matched {at = at} (omega arith) h) (inside-failed h)
-  judged-keeps k (Val.Integer z) at slots t l h = inside-ended
-  judged-keeps k (Val.Text s) at slots t l h = inside-ended
+  judged_keeps k Val.Absent at slots t l h = inside_ended
+  judged_keeps k (Val.Bool b) at slots t l h = cond_keeps b (λ _. inside_matched {at = at} (omega arith) h) (inside_failed h)
+  judged_keeps k (Val.Integer z) at slots t l h = inside_ended
+  judged_keeps k (Val.Text s) at slots t l h = inside_ended
 
-  byte_inside : (at byte : ℕ) → byteStands S.message at byte ≡ true → at + 1 ≤ length S.message
-  unfolding byteStands
+  byte_inside : (at byte : ℕ) → byte_stands S.message at byte ≡ true → at + 1 ≤ length S.message
+  unfolding byte_stands
   byte_inside at byte e =
       let h = ltb-true at (length S.message) (both_left (ltb at (length S.message)) (eqb (get_or S.message at 0) byte) e) in
       omega arith
 
-  rounds-keeps : (apply' : Application) → InsideApplication S.message Good apply' → (fuel : ℕ) → InsideApplication S.message Good (rounds apply' fuel)
+  rounds_keeps : (apply' : Application) → InsideApplication S.message Good apply' → (fuel : ℕ) → InsideApplication S.message Good (rounds apply' fuel)
   unfolding rounds
-  rounds-keeps apply' self zero depth p at slots t g l h = inside-out
-  rounds-keeps apply' self (suc fuel) depth p at slots t g l h =
-      next-keeps (self depth p at slots t g l h)
-      (λ at₁ slots₁ t₁ c k. earlier c.0 k.number (rounds-keeps apply' self fuel depth p at₁ slots₁ t₁ g c.1 k.good))
-      (λ _ t₁ _. inside-matched {at = at} (omega arith) (as_lent slots h))
+  rounds_keeps apply' self zero depth p at slots t g l h = inside_out
+  rounds_keeps apply' self (suc fuel) depth p at slots t g l h =
+      next_keeps (self depth p at slots t g l h)
+      (λ at₁ slots₁ t₁ c k. earlier c.0 k.number (rounds_keeps apply' self fuel depth p at₁ slots₁ t₁ g c.1 k.good))
+      (λ _ t₁ _. inside_matched {at = at} (omega arith) (as_lent slots h))
 
   module _ (texts : GrammarGood Good S.grammar) where
-    returning-keeps : (r : ℕ) (slots : Slots) (ss : List ℕ) (from at : ℕ) (slots₁ : Slots) (t : Tally) → (from ≤ at) × (at ≤ length S.message) →
+    returning_keeps : (r : ℕ) (slots : Slots) (ss : List ℕ) (from at : ℕ) (slots₁ : Slots) (t : Tally) → (from ≤ at) × (at ≤ length S.message) →
         AllGood Good slots → AllGood Good slots₁ → Keeps from (length slots) (returning S r slots ss at slots₁ t)
     unfolding returning
-    returning-keeps r slots ss from at slots₁ t c h g =
-        withValue-keeps t (evalAll-gives slots₁ g (ruleOf S.grammar r).returned (texts.returned r))
-        (λ results q. inside-matched {at = at} c (receive-held slots ss results (as_lent slots h) q))
+    returning_keeps r slots ss from at slots₁ t c h g =
+        with_value_keeps t (eval_all_gives slots₁ g (rule_of S.grammar r).returned (texts.returned r))
+        (λ results q. inside_matched {at = at} c (receive_held slots ss results (as_lent slots h) q))
 
-    visit-keeps : (apply' : Application) (fuel : ℕ) → InsideApplication S.message Good apply' → InsideApplication S.message Good (visit S apply' (rounds apply' fuel))
+    visit_keeps : (apply' : Application) (fuel : ℕ) → InsideApplication S.message Good apply' → InsideApplication S.message Good (visit S apply' (rounds apply' fuel))
     unfolding visit
-    visit-keeps apply' fuel self depth (empty k) at slots t g l h = inside-matched {at = at} (omega arith) (as_lent slots h)
-    visit-keeps apply' fuel self depth (terminal k byte) at slots t g l h =
-        cond-keeps (byteStands S.message at byte)
-        (λ e. inside-matched {at = at + 1} (let i = byte_inside at byte e in omega arith) (as_lent slots h)) (inside-failed (as_lent slots h))
-    visit-keeps apply' fuel self depth (sequence k p q) at slots t g l h =
-        onward-keeps slots h (self (suc depth) p at slots t g.0 l h)
+    visit_keeps apply' fuel self depth (empty k) at slots t g l h = inside_matched {at = at} (omega arith) (as_lent slots h)
+    visit_keeps apply' fuel self depth (terminal k byte) at slots t g l h =
+        cond_keeps (byte_stands S.message at byte)
+        (λ e. inside_matched {at = at + 1} (let i = byte_inside at byte e in omega arith) (as_lent slots h)) (inside_failed (as_lent slots h))
+    visit_keeps apply' fuel self depth (sequence k p q) at slots t g l h =
+        onward_keeps slots h (self (suc depth) p at slots t g.0 l h)
         (λ at₁ slots₁ t₁ c i. earlier c.0 i.number (self (suc depth) q at₁ slots₁ t₁ g.1 c.1 i.good))
-    visit-keeps apply' fuel self depth (choice k p q) at slots t g l h =
-        givingBack-keeps slots h (next-keeps (self (suc depth) p at slots t g.0 l h)
-        (λ _ _ _ c i. inside-matched c i) (λ _ t₁ _. self (suc depth) q at slots t₁ g.1 l h))
-    visit-keeps apply' fuel self depth (repeat k p) at slots t g l h = rounds-keeps apply' self fuel (suc depth) p at slots t g l h
-    visit-keeps apply' fuel self depth (unless k p) at slots t g l h =
-        next-keeps (self (suc depth) p at slots t g l h) (λ _ _ _ _ i. inside-failed i) (λ _ _ i. inside-matched {at = at} (omega arith) i)
-    visit-keeps apply' fuel self depth (call k r es ss) at slots t g l h =
-        withValue-keeps t (evalAll-gives slots h es g) (λ given q.
-        onward-keeps slots h (self (suc depth) (ruleOf S.grammar r).body at (fresh given) t (texts.body r) l (fresh-good given q))
-        (λ at₁ slots₁ t₁ c i. returning-keeps r slots ss at at₁ slots₁ t₁ c h i.good))
-    visit-keeps apply' fuel self depth (bind k s p) at slots t g l h =
-        onward-keeps slots h (self (suc depth) p at slots t g l h)
-        (λ at₁ slots₁ t₁ c i. inside-matched c (set-held slots₁ s (messagePart at at₁) i (goods.part at at₁ c.0 c.1)))
-    visit-keeps apply' fuel self depth (update k s e) at slots t g l h =
-        withValue-keeps t (eval-gives slots h e g) (λ v q. inside-matched {at = at} (omega arith) (set-held slots s v (as_lent slots h) q))
-    visit-keeps apply' fuel self depth (constraint k e) at slots t g l h =
-        withValue-keeps t (eval-gives slots h e g) (λ v _. judged-keeps k v at slots t l (as_lent slots h))
+    visit_keeps apply' fuel self depth (choice k p q) at slots t g l h =
+        giving_back_keeps slots h (next_keeps (self (suc depth) p at slots t g.0 l h)
+        (λ _ _ _ c i. inside_matched c i) (λ _ t₁ _. self (suc depth) q at slots t₁ g.1 l h))
+    visit_keeps apply' fuel self depth (repeat k p) at slots t g l h = rounds_keeps apply' self fuel (suc depth) p at slots t g l h
+    visit_keeps apply' fuel self depth (unless k p) at slots t g l h =
+        next_keeps (self (suc depth) p at slots t g l h) (λ _ _ _ _ i. inside_failed i) (λ _ _ i. inside_matched {at = at} (omega arith) i)
+    visit_keeps apply' fuel self depth (call k r es ss) at slots t g l h =
+        with_value_keeps t (eval_all_gives slots h es g) (λ given q.
+        onward_keeps slots h (self (suc depth) (rule_of S.grammar r).body at (fresh given) t (texts.body r) l (fresh_good given q))
+        (λ at₁ slots₁ t₁ c i. returning_keeps r slots ss at at₁ slots₁ t₁ c h i.good))
+    visit_keeps apply' fuel self depth (bind k s p) at slots t g l h =
+        onward_keeps slots h (self (suc depth) p at slots t g l h)
+        (λ at₁ slots₁ t₁ c i. inside_matched c (set_held slots₁ s (message_part at at₁) i (goods.part at at₁ c.0 c.1)))
+    visit_keeps apply' fuel self depth (update k s e) at slots t g l h =
+        with_value_keeps t (eval_gives slots h e g) (λ v q. inside_matched {at = at} (omega arith) (set_held slots s v (as_lent slots h) q))
+    visit_keeps apply' fuel self depth (constraint k e) at slots t g l h =
+        with_value_keeps t (eval_gives slots h e g) (λ v _. judged_keeps k v at slots t l (as_lent slots h))
 
-    admit-keeps : (d : Due) (apply' : Application) (fuel : ℕ) → InsideApplication S.message Good apply' → InsideApplication S.message Good (admit S d apply' (rounds apply' fuel))
+    admit_keeps : (d : Due) (apply' : Application) (fuel : ℕ) → InsideApplication S.message Good apply' → InsideApplication S.message Good (admit S d apply' (rounds apply' fuel))
     unfolding admit
-    admit-keeps fine apply' fuel self depth p at slots t g l h = visit-keeps apply' fuel self depth p at slots (counted t) g l h
-    admit-keeps noBudget apply' fuel self depth p at slots t g l h = inside-ended
-    admit-keeps tooDeep apply' fuel self depth p at slots t g l h = inside-ended
+    admit_keeps fine apply' fuel self depth p at slots t g l h = visit_keeps apply' fuel self depth p at slots (counted t) g l h
+    admit_keeps no_budget apply' fuel self depth p at slots t g l h = inside_ended
+    admit_keeps too_deep apply' fuel self depth p at slots t g l h = inside_ended
 
     -- Applying a node keeps it, whatever the budget, the deepest depth and the fuel
-    pub apply-keeps : (budget deepest fuel : ℕ) → InsideApplication S.message Good (apply S budget deepest fuel)
+    pub apply_keeps : (budget deepest fuel : ℕ) → InsideApplication S.message Good (apply S budget deepest fuel)
     unfolding apply
-    apply-keeps budget deepest zero depth p at slots t g l h = inside-out
-    apply-keeps budget deepest (suc fuel) depth p at slots t g l h =
-        admit-keeps (due budget deepest depth t.visits) (apply S budget deepest fuel) fuel (apply-keeps budget deepest fuel) depth p at slots t g l h
+    apply_keeps budget deepest zero depth p at slots t g l h = inside_out
+    apply_keeps budget deepest (suc fuel) depth p at slots t g l h =
+        admit_keeps (due budget deepest depth t.visits) (apply S budget deepest fuel) fuel (apply_keeps budget deepest fuel) depth p at slots t g l h

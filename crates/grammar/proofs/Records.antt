@@ -8,18 +8,18 @@ use lib.Dec.{ltb}
 use lib.ListN.{get_or}
 use borrow.Author.Tests.{ltb-true, leb-true, lt-ltb}
 use Rattle.laws.specs.Tests.{both_left, both_right}
-use Rattle.grammar.specs.Words.{ruleCount, nodeCount, ruleWord, inheritedCount, returnedCount, kind_at}
-use Rattle.grammar.specs.Form.{Sort, unused, parsing, count, inheritedType, returned, returnedType}
-use Rattle.grammar.specs.Form.{ruleSorts, isParsing, isExpression, is_type, under, isPart, fits, ruleWordOk}
-use Rattle.grammar.proofs.Facts.{SoundTable, rule-word}
+use Rattle.grammar.specs.Words.{rule_count, node_count, rule_word, inherited_count, returned_count, kind_at}
+use Rattle.grammar.specs.Form.{Sort, unused, parsing, count, inherited_type, returned, returned_type}
+use Rattle.grammar.specs.Form.{rule_sorts, is_parsing, is_expression, is_type, under, is_part, fits, rule_word_ok}
+use Rattle.grammar.proofs.Facts.{SoundTable, rule_word_lem}
 
 -- four places, one by one
-pub four-places : (P : ℕ → Type 0) → P 0 → P 1 → P 2 → P 3 → (i : ℕ) → i < 4 → P i
-four-places P p q r s zero h = p
-four-places P p q r s (suc zero) h = q
-four-places P p q r s (suc (suc zero)) h = r
-four-places P p q r s (suc (suc (suc zero))) h = s
-four-places P p q r s (suc (suc (suc (suc i)))) h = absurd (omega arith)
+pub four_places : (P : ℕ → Type 0) → P 0 → P 1 → P 2 → P 3 → (i : ℕ) → i < 4 → P i
+four_places P p q r s zero h = p
+four_places P p q r s (suc zero) h = q
+four_places P p q r s (suc (suc zero)) h = r
+four_places P p q r s (suc (suc (suc zero))) h = s
+four_places P p q r s (suc (suc (suc (suc i)))) h = absurd (omega arith)
 
 -- a place in use passes its test
 pub in_use : (i n : ℕ) (test : Bool) (w : ℕ) → under i n test w ≡ true → i < n → test ≡ true
@@ -33,12 +33,12 @@ pub record Part (words : List ℕ) (sorted : ℕ → Bool) (bound a : ℕ) : Typ
   pub sort : sorted (kind_at words a) ≡ true
 
 abbrev pub ParsingPart : List ℕ → (bound a : ℕ) → Type 0
-ParsingPart words bound a = Part words isParsing bound a
+ParsingPart words bound a = Part words is_parsing bound a
 
 abbrev pub ExpressionPart : List ℕ → (bound a : ℕ) → Type 0
-ExpressionPart words bound a = Part words isExpression bound a
+ExpressionPart words bound a = Part words is_expression bound a
 
-pub part : (words : List ℕ) (sorted : ℕ → Bool) (bound a : ℕ) → isPart words sorted bound a ≡ true → Part words sorted bound a
+pub part : (words : List ℕ) (sorted : ℕ → Bool) (bound a : ℕ) → is_part words sorted bound a ≡ true → Part words sorted bound a
 part words sorted bound a e = record {
   below = ltb-true a bound (both_left (ltb a bound) (sorted (kind_at words a)) e);
   sort = both_right (ltb a bound) (sorted (kind_at words a)) e;
@@ -48,45 +48,45 @@ part words sorted bound a e = record {
 
 -- 'Rule record: body node; n inherited (0 to 4); four types; m returned (0 to 4); four returned nodes; four returned types'
 pub record RuleRight (words : List ℕ) (r : ℕ) : Type 0 where
-  pub body : ParsingPart words (nodeCount words) (ruleWord words r 0)
-  pub inherited-most : inheritedCount words r ≤ 4
-  pub returned-most : returnedCount words r ≤ 4
-  pub inherited-type : (i : ℕ) → i < inheritedCount words r → is_type (ruleWord words r (2 + i)) ≡ true
-  pub returned : (i : ℕ) → i < returnedCount words r → ExpressionPart words (nodeCount words) (ruleWord words r (7 + i))
-  pub returned-type : (i : ℕ) → i < returnedCount words r → is_type (ruleWord words r (11 + i)) ≡ true
+  pub body : ParsingPart words (node_count words) (rule_word words r 0)
+  pub inherited_most : inherited_count words r ≤ 4
+  pub returned_most : returned_count words r ≤ 4
+  pub inherited_type_lem : (i : ℕ) → i < inherited_count words r → is_type (rule_word words r (2 + i)) ≡ true
+  pub returned : (i : ℕ) → i < returned_count words r → ExpressionPart words (node_count words) (rule_word words r (7 + i))
+  pub returned_type_lem : (i : ℕ) → i < returned_count words r → is_type (rule_word words r (11 + i)) ≡ true
 
 module _ (words literals : List ℕ) (table : SoundTable words literals) where
   -- word j of rule r's record, of a sort
-  rule_fits : (r j : ℕ) (s : Sort) → r < ruleCount words → j < 15 → get_or ruleSorts j unused ≡ s → fits words (nodeCount words) (ruleWord words r) s (ruleWord words r j) ≡ true
-  unfolding ruleWordOk
-  rule_fits r j s hr hj e = rw (← e) (rule-word words literals table r j hr hj)
+  rule_fits : (r j : ℕ) (s : Sort) → r < rule_count words → j < 15 → get_or rule_sorts j unused ≡ s → fits words (node_count words) (rule_word words r) s (rule_word words r j) ≡ true
+  unfolding rule_word_ok
+  rule_fits r j s hr hj e = rw (← e) (rule_word_lem words literals table r j hr hj)
 
-  inherited-sort : (i : ℕ) → i < 4 → get_or ruleSorts (2 + i) unused ≡ inheritedType i
-  unfolding ruleSorts
-  inherited-sort = four-places (λ i. get_or ruleSorts (2 + i) unused ≡ inheritedType i) refl refl refl refl
+  inherited_sort : (i : ℕ) → i < 4 → get_or rule_sorts (2 + i) unused ≡ inherited_type i
+  unfolding rule_sorts
+  inherited_sort = four_places (λ i. get_or rule_sorts (2 + i) unused ≡ inherited_type i) refl refl refl refl
 
-  returned-sort : (i : ℕ) → i < 4 → get_or ruleSorts (7 + i) unused ≡ returned i
-  unfolding ruleSorts
-  returned-sort = four-places (λ i. get_or ruleSorts (7 + i) unused ≡ returned i) refl refl refl refl
+  returned_sort : (i : ℕ) → i < 4 → get_or rule_sorts (7 + i) unused ≡ returned i
+  unfolding rule_sorts
+  returned_sort = four_places (λ i. get_or rule_sorts (7 + i) unused ≡ returned i) refl refl refl refl
 
-  returned-type-sort : (i : ℕ) → i < 4 → get_or ruleSorts (11 + i) unused ≡ returnedType i
-  unfolding ruleSorts
-  returned-type-sort = four-places (λ i. get_or ruleSorts (11 + i) unused ≡ returnedType i) refl refl refl refl
+  returned_type_sort : (i : ℕ) → i < 4 → get_or rule_sorts (11 + i) unused ≡ returned_type i
+  unfolding rule_sorts
+  returned_type_sort = four_places (λ i. get_or rule_sorts (11 + i) unused ≡ returned_type i) refl refl refl refl
 
-  pub rule-right : (r : ℕ) → r < ruleCount words → RuleRight words r
-  unfolding fits ruleSorts
-  rule-right r h =
-      let n-most : inheritedCount words r ≤ 4 = leb-true (inheritedCount words r) 4 (rule_fits r 1 count h (omega arith) refl) in
-      let m-most : returnedCount words r ≤ 4 = leb-true (returnedCount words r) 4 (rule_fits r 6 count h (omega arith) refl) in
+  pub rule_right : (r : ℕ) → r < rule_count words → RuleRight words r
+  unfolding fits rule_sorts
+  rule_right r h =
+      let n_most : inherited_count words r ≤ 4 = leb-true (inherited_count words r) 4 (rule_fits r 1 count h (omega arith) refl) in
+      let m_most : returned_count words r ≤ 4 = leb-true (returned_count words r) 4 (rule_fits r 6 count h (omega arith) refl) in
       record {
-        body = part words isParsing (nodeCount words) (ruleWord words r 0) (rule_fits r 0 parsing h (omega arith) refl);
-        inherited-most = n-most;
-        returned-most = m-most;
-        inherited-type = λ i l. in_use i (inheritedCount words r) (is_type (ruleWord words r (2 + i))) (ruleWord words r (2 + i))
-            (rule_fits r (2 + i) (inheritedType i) h (omega arith) (inherited-sort i (omega arith))) l;
-        returned = λ i l. part words isExpression (nodeCount words) (ruleWord words r (7 + i))
-            (in_use i (returnedCount words r) (isPart words isExpression (nodeCount words) (ruleWord words r (7 + i))) (ruleWord words r (7 + i))
-            (rule_fits r (7 + i) (returned i) h (omega arith) (returned-sort i (omega arith))) l);
-        returned-type = λ i l. in_use i (returnedCount words r) (is_type (ruleWord words r (11 + i))) (ruleWord words r (11 + i))
-            (rule_fits r (11 + i) (returnedType i) h (omega arith) (returned-type-sort i (omega arith))) l;
+        body = part words is_parsing (node_count words) (rule_word words r 0) (rule_fits r 0 parsing h (omega arith) refl);
+        inherited_most = n_most;
+        returned_most = m_most;
+        inherited_type_lem = λ i l. in_use i (inherited_count words r) (is_type (rule_word words r (2 + i))) (rule_word words r (2 + i))
+            (rule_fits r (2 + i) (inherited_type i) h (omega arith) (inherited_sort i (omega arith))) l;
+        returned = λ i l. part words is_expression (node_count words) (rule_word words r (7 + i))
+            (in_use i (returned_count words r) (is_part words is_expression (node_count words) (rule_word words r (7 + i))) (rule_word words r (7 + i))
+            (rule_fits r (7 + i) (returned i) h (omega arith) (returned_sort i (omega arith))) l);
+        returned_type_lem = λ i l. in_use i (returned_count words r) (is_type (rule_word words r (11 + i))) (rule_word words r (11 + i))
+            (rule_fits r (11 + i) (returned_type i) h (omega arith) (returned_type_sort i (omega arith))) l;
       }

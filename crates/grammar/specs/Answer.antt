@@ -11,18 +11,18 @@ use Rattle.grammar.specs.declared.Answer.{Answer}
 use Rattle.grammar.specs.declared.Mode.{Mode}
 use Rattle.grammar.specs.declared.Mode.TheVariants.{Bench, Display}
 use Rattle.grammar.specs.Numbers.{DONE, SIZE, FIELD, USE, START, TYPE, LONG, WORK, NOMATCH, BUDGET, DEEP, STUCK, FAULT}
-use Rattle.grammar.specs.Tree.{ruleOf, grammarOf}
-use Rattle.grammar.specs.Form.{followedBy, unlessOk, refusedAt, tableCheck}
+use Rattle.grammar.specs.Tree.{rule_of, grammar_of}
+use Rattle.grammar.specs.Form.{followed_by, unless_ok, refused_at, table_check}
 use Rattle.grammar.specs.Types.{untyped}
-use Rattle.grammar.specs.Run.{Setting, Applied, matched, failed, ended, outOfFuel, onward, withValue, evalAll, fresh, apply}
+use Rattle.grammar.specs.Run.{Setting, Applied, matched, failed, ended, out_of_fuel, onward, with_value, eval_all, fresh, apply}
 
 -- W, in 32-bit words; docs/WORK.md has the layout
-abbrev pub workWords : ℕ
-workWords = 9760
+abbrev pub work_words : ℕ
+work_words = 9760
 
 -- 'a visit due at depth 257' is DEEP
-abbrev pub deepestVisit : ℕ
-deepestVisit = 256
+abbrev pub deepest_visit : ℕ
+deepest_visit = 256
 
 -- ════ Document 01's number and place for each case ════
 
@@ -46,32 +46,32 @@ place (Untyped r) = r
 place Long = 0
 place Work = 0
 
-unfoldable pub endingNumber : Ending → ℕ
-endingNumber Budget = BUDGET
-endingNumber Deep = DEEP
-endingNumber Stuck = STUCK
-endingNumber (AtFault why) = FAULT
+unfoldable pub ending_number : Ending → ℕ
+ending_number Budget = BUDGET
+ending_number Deep = DEEP
+ending_number Stuck = STUCK
+ending_number (AtFault why) = FAULT
 
 -- ════ The checks ════
 
 -- 5 TYPE: 'a rule fails the type rules': 'smallest such rule'
-unfoldable pub typeRules : List ℕ → Verdict
-typeRules words = refusedAt Untyped (untyped (grammarOf words))
+unfoldable pub type_rules : List ℕ → Verdict
+type_rules words = refused_at Untyped (untyped (grammar_of words))
 
 -- the type check's answer: 1 to 5, or passed
-unfoldable pub typeCheck : List ℕ → List ℕ → Verdict
-typeCheck words literals = followedBy (tableCheck words literals) (typeRules words)
+unfoldable pub type_check : List ℕ → List ℕ → Verdict
+type_check words literals = followed_by (table_check words literals) (type_rules words)
 
 -- 'then 5 (type check and display run only)'
-abbrev pub checkFor : Mode → List ℕ → List ℕ → Verdict
-checkFor Bench words literals = tableCheck words literals
-checkFor Display words literals = typeCheck words literals
+abbrev pub check_for : Mode → List ℕ → List ℕ → Verdict
+check_for Bench words literals = table_check words literals
+check_for Display words literals = type_check words literals
 
 -- 'Checks go 1, 2, 3, 4, then 5 .., 6, 7, then the run'
-unfoldable pub check : Mode → List ℕ → List ℕ → (messageLength workLength : ℕ) → Verdict
-check mode words literals messageLength workLength =
-    followedBy (checkFor mode words literals)
-    (followedBy (unlessOk (leb messageLength 65535) Long) (unlessOk (leb workWords workLength) Work))
+unfoldable pub check : Mode → List ℕ → List ℕ → (message_length work_length : ℕ) → Verdict
+check mode words literals message_length work_length =
+    followed_by (check_for mode words literals)
+    (followed_by (unless_ok (leb message_length 65535) Long) (unless_ok (leb work_words work_length) Work))
 
 -- ════ The run ════
 
@@ -79,8 +79,8 @@ check mode words literals messageLength workLength =
 -- 'The start body has depth 1'
 unfoldable pub run : Setting → (budget : ℕ) → Applied
 run S budget =
-    onward (apply S budget deepestVisit (suc budget) 1 (ruleOf S.grammar 0).body 0 (fresh []) (record { visits = 0 })) (λ at slots t.
-    withValue (evalAll S slots (ruleOf S.grammar 0).returned) t (λ results. matched at results t))
+    onward (apply S budget deepest_visit (suc budget) 1 (rule_of S.grammar 0).body 0 (fresh []) (record { visits = 0 })) (λ at slots t.
+    with_value (eval_all S slots (rule_of S.grammar 0).returned) t (λ results. matched at results t))
 
 -- ════ The answer record ════
 
@@ -97,12 +97,12 @@ answered number place consumed visits values = record {
   value3 = get_or values 3 Val.Absent;
 }
 
--- 'Consumed and values are zero or absent unless DONE'. A run never comes to outOfFuel (proofs/Fuel.antt): it has a number that document 01 has not
+-- 'Consumed and values are zero or absent unless DONE'. A run never comes to out_of_fuel (proofs/Fuel.antt): it has a number that document 01 has not
 unfoldable pub answer_of : Applied → Answer
 answer_of (matched at values t) = answered DONE 0 at t.visits values
 answer_of (failed slots t) = answered NOMATCH 0 0 t.visits []
-answer_of (ended why k t) = answered (endingNumber why) k 0 t.visits []
-answer_of outOfFuel = answered 255 0 0 0 []
+answer_of (ended why k t) = answered (ending_number why) k 0 t.visits []
+answer_of out_of_fuel = answered 255 0 0 0 []
 
 -- 'visits are 0 unless the answer is 0 or 8 to 12'
 unfoldable pub refusal : Verdict → Answer
@@ -119,29 +119,29 @@ conclude Long ran = refusal Long
 conclude Work ran = refusal Work
 
 abbrev pub setting_of : (words literals message : List ℕ) → Setting
-setting_of words literals message = record { grammar = grammarOf words; message = message; literals = literals }
+setting_of words literals message = record { grammar = grammar_of words; message = message; literals = literals }
 
 -- The answer for every table, literals, message, budget and length of the work area
-unfoldable pub answer : Mode → (words literals message : List ℕ) → (budget workLength : ℕ) → Answer
-answer mode words literals message budget workLength =
-    conclude (check mode words literals (length message) workLength) (run (setting_of words literals message) budget)
+unfoldable pub answer : Mode → (words literals message : List ℕ) → (budget work_length : ℕ) → Answer
+answer mode words literals message budget work_length =
+    conclude (check mode words literals (length message) work_length) (run (setting_of words literals message) budget)
 
 -- ════ The work area afterwards ════
 
 -- 'leaves the first W words zero and the others untouched'
 unfoldable pub zeroed : List ℕ → List ℕ
-zeroed work = replicate workWords 0 ++ drop workWords work
+zeroed work = replicate work_words 0 ++ drop work_words work
 
 -- 'Answers 1 to 7 change no memory'
-unfoldable pub leftAfter : Verdict → List ℕ → List ℕ
-leftAfter Passed work = zeroed work
-leftAfter Size work = work
-leftAfter (Field i) work = work
-leftAfter (Use k) work = work
-leftAfter Start work = work
-leftAfter (Untyped r) work = work
-leftAfter Long work = work
-leftAfter Work work = work
+unfoldable pub left_after : Verdict → List ℕ → List ℕ
+left_after Passed work = zeroed work
+left_after Size work = work
+left_after (Field i) work = work
+left_after (Use k) work = work
+left_after Start work = work
+left_after (Untyped r) work = work
+left_after Long work = work
+left_after Work work = work
 
-unfoldable pub workAfter : Mode → (words literals message work : List ℕ) → List ℕ
-workAfter mode words literals message work = leftAfter (check mode words literals (length message) (length work)) work
+unfoldable pub work_after : Mode → (words literals message work : List ℕ) → List ℕ
+work_after mode words literals message work = left_after (check mode words literals (length message) (length work)) work

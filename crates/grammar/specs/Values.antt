@@ -46,25 +46,25 @@ calculated Divide a b = quotient a b
 abbrev pub slice_of : (message literals : List ℕ) → Span → List ℕ
 slice_of message literals s = cond s.literal literals message
 
-abbrev pub spanFits : (message literals : List ℕ) → Span → Bool
-spanFits message literals s = leb (s.start + s.length) (length (slice_of message literals s))
+abbrev pub span_fits : (message literals : List ℕ) → Span → Bool
+span_fits message literals s = leb (s.start + s.length) (length (slice_of message literals s))
 
 -- 'Text is where it stands: its bytes are handed out as a part of the message or of the literals, never a copy'. Of 'a part that doesn't fit the
--- slice it names' they are 'an empty part at the start of the message'. These are the bytes; where the part stands is `textPlace` of crate values
-unfoldable pub spanBytes : (message literals : List ℕ) → Span → List ℕ
-spanBytes message literals s =
-    cond (spanFits message literals s) (take s.length (drop s.start (slice_of message literals s))) []
+-- slice it names' they are 'an empty part at the start of the message'. These are the bytes; where the part stands is `text_place` of crate values
+unfoldable pub span_bytes : (message literals : List ℕ) → Span → List ℕ
+span_bytes message literals s =
+    cond (span_fits message literals s) (take s.length (drop s.start (slice_of message literals s))) []
 
 -- 'Asking for the bytes of an absent or other value .. gives an empty part at the start of the message'
-unfoldable pub textBytes : (message literals : List ℕ) → Value → List ℕ
-textBytes message literals Val.Absent = []
-textBytes message literals (Val.Bool b) = []
-textBytes message literals (Val.Integer z) = []
-textBytes message literals (Val.Text s) = spanBytes message literals s
+unfoldable pub text_bytes : (message literals : List ℕ) → Value → List ℕ
+text_bytes message literals Val.Absent = []
+text_bytes message literals (Val.Bool b) = []
+text_bytes message literals (Val.Integer z) = []
+text_bytes message literals (Val.Text s) = span_bytes message literals s
 
 -- 'Two Texts are equal when their bytes are the same, wherever they stand'
-unfoldable pub sameTexts : (message literals : List ℕ) → Span → Span → Bool
-sameTexts message literals s t = same (spanBytes message literals s) (spanBytes message literals t)
+unfoldable pub same_texts : (message literals : List ℕ) → Span → Span → Bool
+same_texts message literals s t = same (span_bytes message literals s) (span_bytes message literals t)
 
 -- ════ What an expression gives ════
 
@@ -83,26 +83,26 @@ abbrev pub stuck : {A : Type 0} → ℕ → Evaluated A
 stuck k = ends Stuck k
 
 -- the operator k wants an Integer, a Bool, a Text
-abbrev pub wantInteger : ℕ → Value → (ℤ → Evaluated Value) → Evaluated Value
-wantInteger k Val.Absent f = stuck k
-wantInteger k (Val.Bool b) f = stuck k
-wantInteger k (Val.Integer z) f = f z
-wantInteger k (Val.Text s) f = stuck k
+abbrev pub want_integer : ℕ → Value → (ℤ → Evaluated Value) → Evaluated Value
+want_integer k Val.Absent f = stuck k
+want_integer k (Val.Bool b) f = stuck k
+want_integer k (Val.Integer z) f = f z
+want_integer k (Val.Text s) f = stuck k
 
-abbrev pub wantBool : ℕ → Value → (Bool → Evaluated Value) → Evaluated Value
-wantBool k Val.Absent f = stuck k
-wantBool k (Val.Bool b) f = f b
-wantBool k (Val.Integer z) f = stuck k
-wantBool k (Val.Text s) f = stuck k
+abbrev pub want_bool : ℕ → Value → (Bool → Evaluated Value) → Evaluated Value
+want_bool k Val.Absent f = stuck k
+want_bool k (Val.Bool b) f = f b
+want_bool k (Val.Integer z) f = stuck k
+want_bool k (Val.Text s) f = stuck k
 
-abbrev pub wantText : ℕ → Value → (Span → Evaluated Value) → Evaluated Value
-wantText k Val.Absent f = stuck k
-wantText k (Val.Bool b) f = stuck k
-wantText k (Val.Integer z) f = stuck k
-wantText k (Val.Text s) f = f s
+abbrev pub want_text : ℕ → Value → (Span → Evaluated Value) → Evaluated Value
+want_text k Val.Absent f = stuck k
+want_text k (Val.Bool b) f = stuck k
+want_text k (Val.Integer z) f = stuck k
+want_text k (Val.Text s) f = f s
 
 abbrev pub integers : ℕ → Value → Value → (ℤ → ℤ → Evaluated Value) → Evaluated Value
-integers k v w f = wantInteger k v (λ a. wantInteger k w (λ b. f a b))
+integers k v w f = want_integer k v (λ a. want_integer k w (λ b. f a b))
 
 -- 'an unset slot is read (the slot node)'
 abbrev pub present : ℕ → Value → Evaluated Value
@@ -118,36 +118,36 @@ number_at k (Not why) = ends (AtFault why) k
 abbrev pub truth : Bool → Evaluated Value
 truth b = value (Val.Bool b)
 
-abbrev pub sameInteger : ℤ → ℤ → Bool
-sameInteger (pos a) (pos b) = eqb a b
-sameInteger (pos a) (negsuc b) = false
-sameInteger (negsuc a) (pos b) = false
-sameInteger (negsuc a) (negsuc b) = eqb a b
+abbrev pub same_integer : ℤ → ℤ → Bool
+same_integer (pos a) (pos b) = eqb a b
+same_integer (pos a) (negsuc b) = false
+same_integer (negsuc a) (pos b) = false
+same_integer (negsuc a) (negsuc b) = eqb a b
 
 module _ (message literals : List ℕ) where
   -- equal takes two values of one type
   unfoldable pub equal : ℕ → Value → Value → Evaluated Value
   equal k Val.Absent w = stuck k
-  equal k (Val.Bool a) w = wantBool k w (λ b. truth (beq a b))
-  equal k (Val.Integer a) w = wantInteger k w (λ b. truth (sameInteger a b))
-  equal k (Val.Text a) w = wantText k w (λ b. truth (sameTexts message literals a b))
+  equal k (Val.Bool a) w = want_bool k w (λ b. truth (beq a b))
+  equal k (Val.Integer a) w = want_integer k w (λ b. truth (same_integer a b))
+  equal k (Val.Text a) w = want_text k w (λ b. truth (same_texts message literals a b))
 
   -- 'And, or look at the left value first: if it isn't Bool that is STUCK at once, and if it decides the right stays unevaluated'
-  unfoldable pub lookLeft : Operator → ℕ → Value → Evaluated Value → Evaluated Value
-  lookLeft (Calculate _) k v rest = rest
-  lookLeft Equal k v rest = rest
-  lookLeft Greater k v rest = rest
-  lookLeft And k v rest = wantBool k v (λ b. cond b rest (truth false))
-  lookLeft Or k v rest = wantBool k v (λ b. cond b (truth true) rest)
+  unfoldable pub look_left : Operator → ℕ → Value → Evaluated Value → Evaluated Value
+  look_left (Calculate _) k v rest = rest
+  look_left Equal k v rest = rest
+  look_left Greater k v rest = rest
+  look_left And k v rest = want_bool k v (λ b. cond b rest (truth false))
+  look_left Or k v rest = want_bool k v (λ b. cond b (truth true) rest)
 
   -- 'types are looked at after the operands'; and, or have looked at the left one already and give the right
   unfoldable pub operate : Operator → ℕ → Value → Value → Evaluated Value
   operate (Calculate op) k v w = integers k v w (λ a b. number_at k (calculated op a b))
   operate Equal k v w = equal k v w
   operate Greater k v w = integers k v w (λ a b. truth (lt_z b a))
-  operate And k v w = wantBool k w (λ b. truth b)
-  operate Or k v w = wantBool k w (λ b. truth b)
+  operate And k v w = want_bool k w (λ b. truth b)
+  operate Or k v w = want_bool k w (λ b. truth b)
 
 -- the operator not
 unfoldable pub negated : ℕ → Value → Evaluated Value
-negated k v = wantBool k v (λ b. truth (not b))
+negated k v = want_bool k v (λ b. truth (not b))

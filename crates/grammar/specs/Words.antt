@@ -11,38 +11,38 @@ abbrev pub word : List ℕ → ℕ → ℕ
 word words i = get_or words i 0
 
 -- Words 0 to 2: R rules, K nodes, L literal bytes
-abbrev pub ruleCount : List ℕ → ℕ
-ruleCount words = word words 0
+abbrev pub rule_count : List ℕ → ℕ
+rule_count words = word words 0
 
-abbrev pub nodeCount : List ℕ → ℕ
-nodeCount words = word words 1
+abbrev pub node_count : List ℕ → ℕ
+node_count words = word words 1
 
-abbrev pub literalCount : List ℕ → ℕ
-literalCount words = word words 2
+abbrev pub literal_count : List ℕ → ℕ
+literal_count words = word words 2
 
 -- Then R rule records of 15 words, then K node records of 10
-abbrev pub ruleStart : ℕ → ℕ
-ruleStart r = 3 + 15 * r
+abbrev pub rule_start : ℕ → ℕ
+rule_start r = 3 + 15 * r
 
-abbrev pub nodeStart : List ℕ → ℕ → ℕ
-nodeStart words k = 3 + 15 * ruleCount words + 10 * k
+abbrev pub node_start : List ℕ → ℕ → ℕ
+node_start words k = 3 + 15 * rule_count words + 10 * k
 
 -- Rule record: body node; n inherited; four types; m returned; four returned nodes; four returned types
-abbrev pub ruleWord : List ℕ → ℕ → ℕ → ℕ
-ruleWord words r j = word words (ruleStart r + j)
+abbrev pub rule_word : List ℕ → ℕ → ℕ → ℕ
+rule_word words r j = word words (rule_start r + j)
 
-abbrev pub inheritedCount : List ℕ → ℕ → ℕ
-inheritedCount words r = ruleWord words r 1
+abbrev pub inherited_count : List ℕ → ℕ → ℕ
+inherited_count words r = rule_word words r 1
 
-abbrev pub returnedCount : List ℕ → ℕ → ℕ
-returnedCount words r = ruleWord words r 6
+abbrev pub returned_count : List ℕ → ℕ → ℕ
+returned_count words r = rule_word words r 6
 
 -- Node record: kind and nine fields, words 1 to 9 of the record
-abbrev pub nodeWord : List ℕ → ℕ → ℕ → ℕ
-nodeWord words k j = word words (nodeStart words k + j)
+abbrev pub node_word : List ℕ → ℕ → ℕ → ℕ
+node_word words k j = word words (node_start words k + j)
 
 abbrev pub kind_at : List ℕ → ℕ → ℕ
-kind_at words k = word words (nodeStart words k)
+kind_at words k = word words (node_start words k)
 
 -- Integer: high word, low word, signed 32-bit two's complement
 unfoldable pub signed : ℕ → ℕ → ℤ
@@ -81,10 +81,10 @@ nodes a b c d e f g h i =
     ∷ []
 
 -- the node of a kind with these fields; a number that is no kind is Unknown, with or without a line
-unfoldable pub nodeFor : (kind a b c d e f g h i : ℕ) → Node
-nodeFor kind a b c d e f g h i = get_or (nodes a b c d e f g h i) kind N.Unknown
+unfoldable pub node_for : (kind a b c d e f g h i : ℕ) → Node
+node_for kind a b c d e f g h i = get_or (nodes a b c d e f g h i) kind N.Unknown
 
-unfoldable pub nodeAt : List ℕ → ℕ → Node
-nodeAt words k =
-    let field : ℕ → ℕ = nodeWord words k in
-    nodeFor (kind_at words k) (field 1) (field 2) (field 3) (field 4) (field 5) (field 6) (field 7) (field 8) (field 9)
+unfoldable pub node_at : List ℕ → ℕ → Node
+node_at words k =
+    let field : ℕ → ℕ = node_word words k in
+    node_for (kind_at words k) (field 1) (field 2) (field 3) (field 4) (field 5) (field 6) (field 7) (field 8) (field 9)

@@ -8,11 +8,11 @@ tabulate f from zero = []
 tabulate f from (suc count) = f from ∷ tabulate f (from + 1) count
 
 -- the smallest of the count numbers from `from` on that fails the test
-unfoldable pub smallestFailing : (ℕ → Bool) → (from count : ℕ) → Option ℕ
-smallestFailing test from zero = none
-smallestFailing test from (suc count) = cond (test from) (smallestFailing test (from + 1) count) (some from)
+unfoldable pub smallest_failing : (ℕ → Bool) → (from count : ℕ) → Option ℕ
+smallest_failing test from zero = none
+smallest_failing test from (suc count) = cond (test from) (smallest_failing test (from + 1) count) (some from)
 
 -- how many of the count numbers from `from` on pass the test
-unfoldable pub howMany : (ℕ → Bool) → (from count : ℕ) → ℕ
-howMany test from zero = 0
-howMany test from (suc count) = cond (test from) 1 0 + howMany test (from + 1) count
+unfoldable pub how_many : (ℕ → Bool) → (from count : ℕ) → ℕ
+how_many test from zero = 0
+how_many test from (suc count) = cond (test from) 1 0 + how_many test (from + 1) count

@@ -5,8 +5,8 @@ use Rattle.std.proofs.Math.Seq.{drop-append_seam}
 
 module _ {A : Type 0} where
   -- the element at a place, and the part after it
-  pub drop-one : (l : List A) (i : ℕ) (d : A) → i < length l → drop i l ≡ get_or l i d ∷ drop (i + 1) l
-  drop-one l i d h = rw (add-one i, drop-cons l i d h)
+  pub drop_one : (l : List A) (i : ℕ) (d : A) → i < length l → drop i l ≡ get_or l i d ∷ drop (i + 1) l
+  drop_one l i d h = rw (add-one i, drop-cons l i d h)
 
   -- `&l[k..]`
   pub take_rest : (l : List A) (k : ℕ) → take (length l - k) (drop k l) ≡ drop k l
@@ -24,22 +24,22 @@ module _ {A : Type 0} where
       ap (λ (k : ℕ). drop k l) f ∙ sym (drop-drop (length part) p l) ∙ ap (drop (length part)) e ∙ drop-append_seam part rest in
       record { is = e ∙ ap (λ (z : List A). part ++ z) (sym r); place = f }
 
-  pub stands-as : {l a b : List A} {p q : ℕ} → a ≡ b → Stands l p a q → Stands l p b q
-  stands-as {l} {a} {b} {p} {q} e s = subst (λ (z : List A). Stands l p z q) e s
+  pub stands_as : {l a b : List A} {p q : ℕ} → a ≡ b → Stands l p a q → Stands l p b q
+  stands_as {l} {a} {b} {p} {q} e s = subst (λ (z : List A). Stands l p z q) e s
 
   -- one part after another is one part, and back
-  pub stands-then : {l a b : List A} {p q r : ℕ} → Stands l p a q → Stands l q b r → Stands l p (a ++ b) r
-  stands-then {l} {a} {b} {p} {q} {r} s t =
+  pub stands_then : {l a b : List A} {p q r : ℕ} → Stands l p a q → Stands l q b r → Stands l p (a ++ b) r
+  stands_then {l} {a} {b} {p} {q} {r} s t =
       record {
         is = s.is ∙ ap (λ (z : List A). a ++ z) t.is ∙ sym (append_assoc a b (drop r l));
         place = omega (arith, s.place, t.place, length-append a b);
       }
 
-  pub stands-first : {l : List A} {p r : ℕ} (a b : List A) → Stands l p (a ++ b) r → Stands l p a (p + length a)
-  stands-first {l} {p} {r} a b s = stands l p a (b ++ drop r l) (p + length a) (s.is ∙ append_assoc a b (drop r l)) (omega arith)
+  pub stands_first : {l : List A} {p r : ℕ} (a b : List A) → Stands l p (a ++ b) r → Stands l p a (p + length a)
+  stands_first {l} {p} {r} a b s = stands l p a (b ++ drop r l) (p + length a) (s.is ∙ append_assoc a b (drop r l)) (omega arith)
 
-  pub stands-second : {l : List A} {p r : ℕ} (a b : List A) → Stands l p (a ++ b) r → Stands l (p + length a) b r
-  stands-second {l} {p} {r} a b s =
+  pub stands_second : {l : List A} {p r : ℕ} (a b : List A) → Stands l p (a ++ b) r → Stands l (p + length a) b r
+  stands_second {l} {p} {r} a b s =
       let e : drop (p + length a) l ≡ b ++ drop r l =
       sym (drop-drop (length a) p l) ∙ ap (drop (length a)) (s.is ∙ append_assoc a b (drop r l)) ∙ drop-append_seam a (b ++ drop r l) in
       record { is = e; place = omega (arith, s.place, length-append a b) }

@@ -12,14 +12,14 @@ same (m ∷ ms) [] = false
 same (m ∷ ms) (n ∷ ns) = eqb m n && same ms ns
 
 -- the test says what its name says
-pub same-equal : (ms ns : List ℕ) → same ms ns ≡ true → ms ≡ ns
+pub same_equal : (ms ns : List ℕ) → same ms ns ≡ true → ms ≡ ns
 unfolding same
-same-equal [] [] e = refl
-same-equal [] (n ∷ ns) e = never e
-same-equal (m ∷ ms) [] e = never e
-same-equal (m ∷ ms) (n ∷ ns) e =
+same_equal [] [] e = refl
+same_equal [] (n ∷ ns) e = never e
+same_equal (m ∷ ms) [] e = never e
+same_equal (m ∷ ms) (n ∷ ns) e =
     let p : m ≡ n = eqb-true m n (both_left (eqb m n) (same ms ns) e) in
-    let q : ms ≡ ns = same-equal ms ns (both_right (eqb m n) (same ms ns) e) in
+    let q : ms ≡ ns = same_equal ms ns (both_right (eqb m n) (same ms ns) e) in
     cc
 
 no_both : (b : Bool) {c : Bool} → false ≡ c → false ≡ b && c
@@ -27,22 +27,22 @@ no_both true h = h
 no_both false h = refl
 
 -- lists of two lengths
-pub same-unlike : (ms ns : List ℕ) → (length ms ≡ length ns → ⊥) → false ≡ same ms ns
+pub same_unlike : (ms ns : List ℕ) → (length ms ≡ length ns → ⊥) → false ≡ same ms ns
 unfolding same
-same-unlike [] [] h = absurd (h refl)
-same-unlike [] (n ∷ ns) h = refl
-same-unlike (m ∷ ms) [] h = refl
-same-unlike (m ∷ ms) (n ∷ ns) h = no_both (eqb m n) (same-unlike ms ns (λ e. h (ap suc e)))
+same_unlike [] [] h = absurd (h refl)
+same_unlike [] (n ∷ ns) h = refl
+same_unlike (m ∷ ms) [] h = refl
+same_unlike (m ∷ ms) (n ∷ ns) h = no_both (eqb m n) (same_unlike ms ns (λ e. h (ap suc e)))
 
 module _ (ms ns : List ℕ) (i : ℕ) where
   -- from i on: the numbers at i, and then the rest
-  module _ (below : i < length ms) (belowToo : i < length ns) where
+  module _ (below : i < length ms) (below_too : i < length ns) where
     same_from : same (drop i ms) (drop i ns) ≡ (eqb (get_or ms i 0) (get_or ns i 0) && same (drop (i + 1) ms) (drop (i + 1) ns))
     unfolding same
-    same_from = rw (add-one, drop-cons ms i 0 below, drop-cons ns i 0 belowToo)
+    same_from = rw (add-one, drop-cons ms i 0 below, drop-cons ns i 0 below_too)
 
-    pub same-on : get_or ms i 0 ≡ get_or ns i 0 → same (drop (i + 1) ms) (drop (i + 1) ns) ≡ same (drop i ms) (drop i ns)
-    same-on e = sym (same_from ∙ rw (eq-eqb (get_or ms i 0) (get_or ns i 0) e))
+    pub same_on : get_or ms i 0 ≡ get_or ns i 0 → same (drop (i + 1) ms) (drop (i + 1) ns) ≡ same (drop i ms) (drop i ns)
+    same_on e = sym (same_from ∙ rw (eq-eqb (get_or ms i 0) (get_or ns i 0) e))
 
     pub same_not : (get_or ms i 0 ≡ get_or ns i 0 → ⊥) → false ≡ same (drop i ms) (drop i ns)
     same_not n = sym (same_from ∙ rw (ne_eqb (get_or ms i 0) (get_or ns i 0) n))

@@ -6,9 +6,9 @@ use Rattle.std.proofs.Common.{sym, ◌∙◌, arith, length-take, length-drop, l
 unfoldable pub window : (from n : ℕ) → List ℕ → List ℕ
 window from n w = take n (drop from w)
 
-pub length-window : (from n : ℕ) (w : List ℕ) → from + n ≤ length w → length (window from n w) ≡ n
+pub length_window : (from n : ℕ) (w : List ℕ) → from + n ≤ length w → length (window from n w) ≡ n
 unfolding window
-length-window from n w h = length-take n (drop from w) ∙ omega (arith, length-drop from w)
+length_window from n w h = length-take n (drop from w) ∙ omega (arith, length-drop from w)
 
 pub get_d_window : (from n : ℕ) (w : List ℕ) (i : ℕ) → i < n → get_or (window from n w) i 0 ≡ get_or w (from + i) 0
 unfolding window
@@ -18,8 +18,8 @@ get_d_window from n w i h = rw (get_or-take n (drop from w) i 0, get_or-drop fro
 pub window_same : (from from' n : ℕ) (w w' : List ℕ) → from + n ≤ length w → from' + n ≤ length w' →
     ((i : ℕ) → i < n → get_or w (from + i) 0 ≡ get_or w' (from' + i) 0) → window from n w ≡ window from' n w'
 window_same from from' n w w' h h' e =
-    let l : length (window from n w) ≡ n = length-window from n w h in
-    let l' : length (window from' n w') ≡ n = length-window from' n w' h' in
+    let l : length (window from n w) ≡ n = length_window from n w h in
+    let l' : length (window from' n w') ≡ n = length_window from' n w' h' in
     ext_get_or 0 (window from n w) (window from' n w') (omega arith)
     (λ i k. get_d_window from n w i (omega arith) ∙ e i (omega arith) ∙ sym (get_d_window from' n w' i (omega arith)))
 
@@ -31,8 +31,8 @@ pub record Same (low high : ℕ) (w w' : List ℕ) : Type 0 where
 pub same_self : {low high : ℕ} (w : List ℕ) → Same low high w w
 same_self w = record { long = refl; word = λ i l h. refl }
 
-pub same-trans : {low high : ℕ} {w w' w'' : List ℕ} → Same low high w w' → Same low high w' w'' → Same low high w w''
-same-trans s t = record { long = t.long ∙ s.long; word = λ i l h. t.word i l h ∙ s.word i l h }
+pub same_trans : {low high : ℕ} {w w' w'' : List ℕ} → Same low high w w' → Same low high w' w'' → Same low high w w''
+same_trans s t = record { long = t.long ∙ s.long; word = λ i l h. t.word i l h ∙ s.word i l h }
 
 -- no place from `from` up to `to` lies from `low` up to `high`
 abbrev pub Outside : (from to low high : ℕ) → Type 0
@@ -45,8 +45,8 @@ set_same w i v outside = record {
   word = λ j l h. get_or-set_other w i j v 0 (λ e. outside (omega arith) (omega arith));
 }
 
-pub same-window : {low high : ℕ} {w w' : List ℕ} → Same low high w w' → (from n : ℕ) → low ≤ from → from + n ≤ high → from + n ≤ length w →
+pub same_window : {low high : ℕ} {w w' : List ℕ} → Same low high w w' → (from n : ℕ) → low ≤ from → from + n ≤ high → from + n ≤ length w →
     window from n w' ≡ window from n w
-same-window {w = w} {w' = w'} s from n l h fits =
+same_window {w = w} {w' = w'} s from n l h fits =
     let e : length w' ≡ length w = s.long in
     window_same from from n w' w (omega arith) fits (λ i k. s.word (from + i) (omega arith) (omega arith))

@@ -10,10 +10,10 @@ use lib.Dec.{ltb}
 use lib.ListN.{length, take, drop, get_or, length-append, length-drop}
 use lib.Seq.{drop-length, take-append_seam}
 use borrow.Author.Tests.{le-ltb, ltb-true, ltb-false, le-leb}
-use Rattle.laws.specs.Below.{below-drop}
-use Rattle.laws.specs.Parts.{Stands, stands, stands-as, stands-then, stands-first, stands-second}
+use Rattle.laws.specs.Below.{below_drop}
+use Rattle.laws.specs.Parts.{Stands, stands, stands_as, stands_then, stands_first, stands_second}
 use Rattle.laws.specs.Stores.{over}
-use Rattle.grammar.specs.Words.{ruleCount, nodeCount}
+use Rattle.grammar.specs.Words.{rule_count, node_count}
 use Rattle.text.specs.Stored.{Taken, taking}
 use Rattle.listing.specs.declared.reader.Lines.{Lines}
 use Rattle.listing.specs.declared.reader.Lines.TheVariants as L
@@ -21,262 +21,262 @@ use Rattle.listing.specs.declared.reader.Head.{Head}
 use Rattle.listing.specs.declared.reader.Head.TheVariants as H
 use Rattle.listing.specs.declared.Reading.TheVariants.{Done, Line, Room}
 use Rattle.listing.specs.declared.Writing.TheVariants.{Done as Wrote}
-use Rattle.listing.specs.Listing.{line, headLines, bodyLines, listing}
-use Rattle.listing.specs.Reading.{headAt, body_at, onHead, onLines, Filled, filled, fill, refused, read_body, readRest, readFrom}
-use Rattle.listing.specs.Answers.{readingNumber, readingPlace}
+use Rattle.listing.specs.Listing.{line, head_lines, body_lines, listing}
+use Rattle.listing.specs.Reading.{head_at, body_at, on_head, on_lines, Filled, filled, fill, refused, read_body, read_rest, read_from}
+use Rattle.listing.specs.Answers.{reading_number, reading_place}
 use Rattle.listing.specs.Writing.{write, written}
-use Rattle.listing.specs.Plain.{Table, Listed, AcceptedExactly, first_lines, FirstWrong, IsListing, NoRoom, RoomExactly, LineExactly, Judged, isListed, hasNoRoom, isWrongAt}
-use Rattle.laws.specs.Range.{within-right}
-use Rattle.table.proofs.Size.{Sized, size-facts}
-use Rattle.listing.proofs.Whole.{head-found, body-found}
-use Rattle.listing.proofs.Back.{head-back, body_back}
-use Rattle.listing.proofs.FirstLines.{first-fewer, whole-first, whole-begins, head-whole}
-use Rattle.listing.proofs.Stopping.{one-first}
-use Rattle.listing.proofs.RightLines.{zeros, zeros-fit, zeros-length, body-words, table-right}
-use Rattle.listing.proofs.Telling.{fromHead, line-told}
+use Rattle.listing.specs.Plain.{Table, Listed, AcceptedExactly, first_lines, FirstWrong, IsListing, NoRoom, RoomExactly, LineExactly, Judged, is_listed, has_no_room, is_wrong_at}
+use Rattle.laws.specs.Range.{within_right}
+use Rattle.table.proofs.Size.{Sized, size_facts}
+use Rattle.listing.proofs.Whole.{head_found, body_found}
+use Rattle.listing.proofs.Back.{head_back, body_back}
+use Rattle.listing.proofs.FirstLines.{first_fewer, whole_first, whole_begins, head_whole}
+use Rattle.listing.proofs.Stopping.{one_first}
+use Rattle.listing.proofs.RightLines.{zeros, zeros_fit, zeros_length, body_words, table_right}
+use Rattle.listing.proofs.Telling.{from_head, line_told}
 
 -- ════ A table's words and its listing ════
 
-three-words : (words : List ℕ) → 3 ≤ length words → words ≡ get_or words 0 0 ∷ get_or words 1 0 ∷ get_or words 2 0 ∷ drop 3 words
-three-words [] h = absurd (omega arith)
-three-words (a ∷ []) h = absurd (omega arith)
-three-words (a ∷ b ∷ []) h = absurd (omega arith)
-three-words (a ∷ b ∷ c ∷ words) h = refl
+three_words : (words : List ℕ) → 3 ≤ length words → words ≡ get_or words 0 0 ∷ get_or words 1 0 ∷ get_or words 2 0 ∷ drop 3 words
+three_words [] h = absurd (omega arith)
+three_words (a ∷ []) h = absurd (omega arith)
+three_words (a ∷ b ∷ []) h = absurd (omega arith)
+three_words (a ∷ b ∷ c ∷ words) h = refl
 
-listing-some : (words literals : List ℕ) → 0 < length (listing words literals)
-unfolding listing headLines line
-listing-some words literals = simp length-append (omega arith)
+listing_some : (words literals : List ℕ) → 0 < length (listing words literals)
+unfolding listing head_lines line
+listing_some words literals = simp length-append (omega arith)
 
 -- the whole text from a place on
-stands-whole : (text : List ℕ) (at : ℕ) (part : List ℕ) → 0 < length part → drop at text ≡ part → Stands text at part (length text)
-stands-whole text at part h e =
+stands_whole : (text : List ℕ) (at : ℕ) (part : List ℕ) → 0 < length part → drop at text ≡ part → Stands text at part (length text)
+stands_whole text at part h e =
     let n : length text ≤ at + length part = omega (arith, ap length e, length-drop at text) in
     stands text at part [] (length text) (e ∙ sym (append-nil part)) (omega (arith, ap length e, length-drop at text))
 
-whole-stands : (text : List ℕ) (at : ℕ) (part : List ℕ) (q : ℕ) → Stands text at part q → q ≡ length text → drop at text ≡ part
-whole-stands text at part q s e =
+whole_stands : (text : List ℕ) (at : ℕ) (part : List ℕ) (q : ℕ) → Stands text at part q → q ≡ length text → drop at text ≡ part
+whole_stands text at part q s e =
     s.is ∙ ap (λ (z : ℕ). part ++ drop z text) e ∙ ap (λ (z : List ℕ). part ++ z) (drop-length text) ∙ append-nil part
 
 -- ════ It reads back as that table ════
 
 -- the first three lines
-head-reads : (text : List ℕ) (at first : ℕ) (tableWords tableLiterals : List ℕ) (p : ℕ) → Table tableWords tableLiterals
-    → Stands text at (headLines tableWords tableLiterals) p
-    → headAt text first at ≡ taking tableLiterals (H.Is (ruleCount tableWords) (nodeCount tableWords) (length tableLiterals) p)
-unfolding headLines
-head-reads text at first tableWords tableLiterals p t w =
-    let s : Sized tableWords (length tableLiterals) = size-facts tableWords (length tableLiterals) t.size in
-    let r : ℕ = ruleCount tableWords in
-    let k : ℕ = nodeCount tableWords in
-    let n : ℕ = length tableLiterals in
-    head-back text r k tableLiterals first at p (omega (arith, s.rules-most)) (within-right 1 64 r s.rules-least s.rules-most)
-    (omega (arith, s.nodes-most)) (within-right 1 1024 k s.nodes-least s.nodes-most) t.literals-fit
-    (within-right 0 4096 n (omega arith) (omega (arith, s.literals-are, s.literals-most))) w
+head_reads : (text : List ℕ) (at first : ℕ) (table_words table_literals : List ℕ) (p : ℕ) → Table table_words table_literals
+    → Stands text at (head_lines table_words table_literals) p
+    → head_at text first at ≡ taking table_literals (H.Is (rule_count table_words) (node_count table_words) (length table_literals) p)
+unfolding head_lines
+head_reads text at first table_words table_literals p t w =
+    let s : Sized table_words (length table_literals) = size_facts table_words (length table_literals) t.size in
+    let r : ℕ = rule_count table_words in
+    let k : ℕ = node_count table_words in
+    let n : ℕ = length table_literals in
+    head_back text r k table_literals first at p (omega (arith, s.rules_most)) (within_right 1 64 r s.rules_least s.rules_most)
+    (omega (arith, s.nodes_most)) (within_right 1 1024 k s.nodes_least s.nodes_most) t.literals_fit
+    (within_right 0 4096 n (omega arith) (omega (arith, s.literals_are, s.literals_most))) w
 
-module _ (text : List ℕ) (at first : ℕ) (words literals tableWords tableLiterals : List ℕ) where
+module _ (text : List ℕ) (at first : ℕ) (words literals table_words table_literals : List ℕ) where
   roomy : (r k n p : ℕ) (z : List ℕ) → 3 + 15 * r + 10 * k ≤ length words → n ≤ length literals
-      → readRest text first words literals r k n p z ≡ read_body text first words literals r k n p z
-  unfolding readRest
+      → read_rest text first words literals r k n p z ≡ read_body text first words literals r k n p z
+  unfolding read_rest
   roomy r k n p z h g = rw (le-ltb (length words) (3 + 15 * r + 10 * k) h, le-ltb (length literals) n g)
 
-  pub reads-back : Listed text at words literals tableWords tableLiterals → readFrom text at first words literals ≡ fill tableWords tableLiterals words literals
-  unfolding readFrom listing headLines
-  reads-back l =
-      let s : Sized tableWords (length tableLiterals) = size-facts tableWords (length tableLiterals) l.table.size in
-      let r : ℕ = ruleCount tableWords in
-      let k : ℕ = nodeCount tableWords in
-      let n : ℕ = length tableLiterals in
-      let head : List ℕ = headLines tableWords tableLiterals in
-      let body : List ℕ = bodyLines r k tableWords in
-      let w : Stands text at (head ++ body) (length text) = stands-whole text at (head ++ body) (listing-some tableWords tableLiterals) l.is in
+  pub reads_back : Listed text at words literals table_words table_literals → read_from text at first words literals ≡ fill table_words table_literals words literals
+  unfolding read_from listing head_lines
+  reads_back l =
+      let s : Sized table_words (length table_literals) = size_facts table_words (length table_literals) l.table.size in
+      let r : ℕ = rule_count table_words in
+      let k : ℕ = node_count table_words in
+      let n : ℕ = length table_literals in
+      let head : List ℕ = head_lines table_words table_literals in
+      let body : List ℕ = body_lines r k table_words in
+      let w : Stands text at (head ++ body) (length text) = stands_whole text at (head ++ body) (listing_some table_words table_literals) l.is in
       let p : ℕ = at + length head in
-      let a : headAt text first at ≡ taking tableLiterals (H.Is r k n p) =
-      head-reads text at first tableWords tableLiterals p l.table (stands-first head body w) in
-      let b : body_at text r k (first + 3) p ≡ taking (drop 3 tableWords) (L.At (length text)) =
-      body_back text r k (drop 3 tableWords) (first + 3) p (omega (arith, s.words_are, length-drop 3 tableWords))
-      (below-drop 65536 3 tableWords l.table.words-fit) (stands-as (body-words r k tableWords) (stands-second head body w)) in
-      let t : r ∷ k ∷ n ∷ drop 3 tableWords ≡ tableWords =
-      ap (λ (z : ℕ). r ∷ k ∷ z ∷ drop 3 tableWords) s.literals-are ∙ sym (three-words tableWords s.three) in
+      let a : head_at text first at ≡ taking table_literals (H.Is r k n p) =
+      head_reads text at first table_words table_literals p l.table (stands_first head body w) in
+      let b : body_at text r k (first + 3) p ≡ taking (drop 3 table_words) (L.At (length text)) =
+      body_back text r k (drop 3 table_words) (first + 3) p (omega (arith, s.words_are, length-drop 3 table_words))
+      (below_drop 65536 3 table_words l.table.words_fit) (stands_as (body_words r k table_words) (stands_second head body w)) in
+      let t : r ∷ k ∷ n ∷ drop 3 table_words ≡ table_words =
+      ap (λ (z : ℕ). r ∷ k ∷ z ∷ drop 3 table_words) s.literals_are ∙ sym (three_words table_words s.three) in
       rw a
-      (roomy r k n p tableLiterals (omega (arith, s.words_are, l.word_room)) l.literal-room
-      ∙ ap (λ (z : Taken Lines). onLines (λ m. refused text first words literals (Line m)) (λ q. fill (r ∷ k ∷ n ∷ z.numbers) tableLiterals words literals) z.found) b
-      ∙ ap (λ (z : List ℕ). fill z tableLiterals words literals) t)
+      (roomy r k n p table_literals (omega (arith, s.words_are, l.word_room)) l.literal_room
+      ∙ ap (λ (z : Taken Lines). on_lines (λ m. refused text first words literals (Line m)) (λ q. fill (r ∷ k ∷ n ∷ z.numbers) table_literals words literals) z.found) b
+      ∙ ap (λ (z : List ℕ). fill z table_literals words literals) t)
 
 -- ════ Room ════
 
 module _ (text : List ℕ) (at first : ℕ) (words literals : List ℕ) where
   -- what the first three lines say of a table that has them
-  begun : (tableWords tableLiterals : List ℕ) → Table tableWords tableLiterals → first_lines 3 (listing tableWords tableLiterals) ≡ first_lines 3 (drop at text)
-      → (p : ℕ) × ((headAt text first at).found ≡ H.Is (ruleCount tableWords) (nodeCount tableWords) (length tableLiterals) p)
+  begun : (table_words table_literals : List ℕ) → Table table_words table_literals → first_lines 3 (listing table_words table_literals) ≡ first_lines 3 (drop at text)
+      → (p : ℕ) × ((head_at text first at).found ≡ H.Is (rule_count table_words) (node_count table_words) (length table_literals) p)
   unfolding listing
-  begun tableWords tableLiterals t e =
-      let head : List ℕ = headLines tableWords tableLiterals in
+  begun table_words table_literals t e =
+      let head : List ℕ = head_lines table_words table_literals in
       let p : ℕ = at + length head in
-      let b = whole-begins (head-whole tableWords tableLiterals) (drop at text) (bodyLines (ruleCount tableWords) (nodeCount tableWords) tableWords) (sym e) in
-      (p, ap (λ (z : Taken Head). z.found) (head-reads text at first tableWords tableLiterals p t (stands text at head b.0 p b.1 refl)))
+      let b = whole_begins (head_whole table_words table_literals) (drop at text) (body_lines (rule_count table_words) (node_count table_words) table_words) (sym e) in
+      (p, ap (λ (z : Taken Head). z.found) (head_reads text at first table_words table_literals p t (stands text at head b.0 p b.1 refl)))
 
-  module _ (r k n p : ℕ) (found : (headAt text first at).found ≡ H.Is r k n p) where
+  module _ (r k n p : ℕ) (found : (head_at text first at).found ≡ H.Is r k n p) where
     -- a table of zeros has these lines
     no_room : (length words < 3 + 15 * r + 10 * k) ⊎ (length literals < n) → NoRoom (drop at text) words literals
-    unfolding listing headLines
+    unfolding listing head_lines
     no_room short =
-        let a = head-found text first at r k n p found in
+        let a = head_found text first at r k n p found in
         let z : List ℕ = zeros (15 * r + 10 * k) in
-        let tableLiterals : List ℕ = (headAt text first at).numbers in
-        let w = head-whole (r ∷ k ∷ n ∷ z) tableLiterals in
+        let table_literals : List ℕ = (head_at text first at).numbers in
+        let w = head_whole (r ∷ k ∷ n ∷ z) table_literals in
         record {
-          tableWords = r ∷ k ∷ n ∷ z;
-          tableLiterals = tableLiterals;
-          table = table-right r k n z tableLiterals (a.rules-least, a.rules-most) (a.nodes-least, a.nodes-most) a.count
-              (omega (arith, a.count, a.literals-most), a.all) (zeros-length (15 * r + 10 * k)) (zeros-fit (15 * r + 10 * k));
-          begins = whole-first w (bodyLines r k (r ∷ k ∷ n ∷ z)) ∙ sym (ap (first_lines 3) a.part.is ∙ whole-first w (drop p text));
-          longer = ⊎_elim (λ h. inl (omega (arith, zeros-length (15 * r + 10 * k)))) (λ h. inr (omega (arith, a.count))) short;
+          table_words = r ∷ k ∷ n ∷ z;
+          table_literals = table_literals;
+          table = table_right r k n z table_literals (a.rules_least, a.rules_most) (a.nodes_least, a.nodes_most) a.count
+              (omega (arith, a.count, a.literals_most), a.all) (zeros_length (15 * r + 10 * k)) (zeros_fit (15 * r + 10 * k));
+          begins = whole_first w (body_lines r k (r ∷ k ∷ n ∷ z)) ∙ sym (ap (first_lines 3) a.part.is ∙ whole_first w (drop p text));
+          longer = ⊎_elim (λ h. inl (omega (arith, zeros_length (15 * r + 10 * k)))) (λ h. inr (omega (arith, a.count))) short;
         }
 
     enough : 3 + 15 * r + 10 * k ≤ length words → n ≤ length literals → NoRoom (drop at text) words literals → ⊥
     enough h g x =
-        let s = size-facts x.tableWords (length x.tableLiterals) x.table.size in
-        let b = begun x.tableWords x.tableLiterals x.table x.begins in
-        let e : H.Is r k n p ≡ H.Is (ruleCount x.tableWords) (nodeCount x.tableWords) (length x.tableLiterals) b.0 = sym found ∙ b.1 in
-        let i : r ≡ ruleCount x.tableWords = cc in
-        let j : k ≡ nodeCount x.tableWords = cc in
-        let l : n ≡ length x.tableLiterals = cc in
+        let s = size_facts x.table_words (length x.table_literals) x.table.size in
+        let b = begun x.table_words x.table_literals x.table x.begins in
+        let e : H.Is r k n p ≡ H.Is (rule_count x.table_words) (node_count x.table_words) (length x.table_literals) b.0 = sym found ∙ b.1 in
+        let i : r ≡ rule_count x.table_words = cc in
+        let j : k ≡ node_count x.table_words = cc in
+        let l : n ≡ length x.table_literals = cc in
         ⊎_elim (λ u. omega (arith, s.words_are)) (λ u. omega arith) x.longer
 
 -- ════ Every text is judged ════
 
-pub each-judged : (text : List ℕ) (at first : ℕ) (words literals : List ℕ) → Judged text at first words literals (readFrom text at first words literals)
-unfolding readFrom readRest listing headLines
-each-judged text at first words literals = heads (headAt text first at).found refl
+pub each_judged : (text : List ℕ) (at first : ℕ) (words literals : List ℕ) → Judged text at first words literals (read_from text at first words literals)
+unfolding read_from read_rest listing head_lines
+each_judged text at first words literals = heads (head_at text first at).found refl
   where
-    tableLiterals : List ℕ
-    tableLiterals = (headAt text first at).numbers
+    table_literals : List ℕ
+    table_literals = (head_at text first at).numbers
 
     Goal : Filled → Type 0
     Goal result = Judged text at first words literals result
 
-    told : (x : ℕ) → fromHead text at first (headAt text first at).found ≡ L.Wrong x → (NoRoom (drop at text) words literals → ⊥)
+    told : (x : ℕ) → from_head text at first (head_at text first at).found ≡ L.Wrong x → (NoRoom (drop at text) words literals → ⊥)
         → Goal (refused text first words literals (Line x))
     told x e room =
-        let t = line-told text at first x e in
-        isWrongAt t.0 t.2 room (ap (λ (z : ℕ). filled (Line z) words literals) t.1)
+        let t = line_told text at first x e in
+        is_wrong_at t.0 t.2 room (ap (λ (z : ℕ). filled (Line z) words literals) t.1)
 
-    lines : (r k l p : ℕ) (s : Lines) → (headAt text first at).found ≡ H.Is r k l p → (body_at text r k (first + 3) p).found ≡ s
+    lines : (r k l p : ℕ) (s : Lines) → (head_at text first at).found ≡ H.Is r k l p → (body_at text r k (first + 3) p).found ≡ s
         → 3 + 15 * r + 10 * k ≤ length words → l ≤ length literals
-        → Goal (onLines (λ x. refused text first words literals (Line x)) (λ q. fill (r ∷ k ∷ l ∷ (body_at text r k (first + 3) p).numbers) tableLiterals words literals) s)
+        → Goal (on_lines (λ x. refused text first words literals (Line x)) (λ q. fill (r ∷ k ∷ l ∷ (body_at text r k (first + 3) p).numbers) table_literals words literals) s)
     lines r k l p (L.At q) f g h i =
-        let a = head-found text first at r k l p f in
-        let b = body-found text r k (first + 3) p q g in
+        let a = head_found text first at r k l p f in
+        let b = body_found text r k (first + 3) p q g in
         let ws : List ℕ = r ∷ k ∷ l ∷ (body_at text r k (first + 3) p).numbers in
-        let t = stands-then a.part (stands-as (sym (body-words r k ws)) b.part) in
-        isListed ws tableLiterals (record {
-          table = table-right r k l (body_at text r k (first + 3) p).numbers tableLiterals (a.rules-least, a.rules-most) (a.nodes-least, a.nodes-most) a.count
-              (omega (arith, a.count, a.literals-most), a.all) b.count b.all;
-          is = whole-stands text at (headLines ws tableLiterals ++ bodyLines r k ws) q t b.end;
+        let t = stands_then a.part (stands_as (sym (body_words r k ws)) b.part) in
+        is_listed ws table_literals (record {
+          table = table_right r k l (body_at text r k (first + 3) p).numbers table_literals (a.rules_least, a.rules_most) (a.nodes_least, a.nodes_most) a.count
+              (omega (arith, a.count, a.literals_most), a.all) b.count b.all;
+          is = whole_stands text at (head_lines ws table_literals ++ body_lines r k ws) q t b.end;
           word_room = omega (arith, b.count);
-          literal-room = omega (arith, a.count);
+          literal_room = omega (arith, a.count);
         }) refl
-    lines r k l p (L.Wrong x) f g h i = told x (ap (fromHead text at first) f ∙ g) (enough text at first words literals r k l p f h i)
+    lines r k l p (L.Wrong x) f g h i = told x (ap (from_head text at first) f ∙ g) (enough text at first words literals r k l p f h i)
 
-    rooms : (r k l p : ℕ) (s t : Bool) → (headAt text first at).found ≡ H.Is r k l p → ltb (length words) (3 + 15 * r + 10 * k) ≡ s → ltb (length literals) l ≡ t
-        → Goal (cond s (refused text first words literals Room) (cond t (refused text first words literals Room) (read_body text first words literals r k l p tableLiterals)))
-    rooms r k l p true t f g h = hasNoRoom (no_room text at first words literals r k l p f (inl (ltb-true (length words) (3 + 15 * r + 10 * k) g))) refl
-    rooms r k l p false true f g h = hasNoRoom (no_room text at first words literals r k l p f (inr (ltb-true (length literals) l h))) refl
+    rooms : (r k l p : ℕ) (s t : Bool) → (head_at text first at).found ≡ H.Is r k l p → ltb (length words) (3 + 15 * r + 10 * k) ≡ s → ltb (length literals) l ≡ t
+        → Goal (cond s (refused text first words literals Room) (cond t (refused text first words literals Room) (read_body text first words literals r k l p table_literals)))
+    rooms r k l p true t f g h = has_no_room (no_room text at first words literals r k l p f (inl (ltb-true (length words) (3 + 15 * r + 10 * k) g))) refl
+    rooms r k l p false true f g h = has_no_room (no_room text at first words literals r k l p f (inr (ltb-true (length literals) l h))) refl
     rooms r k l p false false f g h =
         lines r k l p (body_at text r k (first + 3) p).found f refl (ltb-false (length words) (3 + 15 * r + 10 * k) g) (ltb-false (length literals) l h)
 
-    heads : (s : Head) → (headAt text first at).found ≡ s
-        → Goal (onHead (λ x. refused text first words literals (Line x)) (λ r k l p. readRest text first words literals r k l p tableLiterals) s)
+    heads : (s : Head) → (head_at text first at).found ≡ s
+        → Goal (on_head (λ x. refused text first words literals (Line x)) (λ r k l p. read_rest text first words literals r k l p table_literals) s)
     heads (H.Is r k l p) f = rooms r k l p (ltb (length words) (3 + 15 * r + 10 * k)) (ltb (length literals) l) f refl refl
     heads (H.Wrong x) f =
-        told x (ap (fromHead text at first) f) (λ n.
-        let b = begun text at first words literals n.tableWords n.tableLiterals n.table n.begins in
+        told x (ap (from_head text at first) f) (λ n.
+        let b = begun text at first words literals n.table_words n.table_literals n.table n.begins in
         let e = sym f ∙ b.1 in
         let z : ◌≡◌ {A = ℕ} 0 1 = cc in
         omega arith)
 
 -- the table that an accepted text says
 pub record Accepted (text : List ℕ) (at first : ℕ) (words literals : List ℕ) (result : Filled) : Type 0 where
-  pub tableWords : List ℕ
-  pub tableLiterals : List ℕ
-  pub listed : Listed text at words literals tableWords tableLiterals
-  pub result-is : result ≡ fill tableWords tableLiterals words literals
+  pub table_words : List ℕ
+  pub table_literals : List ℕ
+  pub listed : Listed text at words literals table_words table_literals
+  pub result_is : result ≡ fill table_words table_literals words literals
 
-pub accepted : (text : List ℕ) (at first : ℕ) (words literals : List ℕ) (m n : ℕ) → (readFrom text at first words literals).answer ≡ Done m n
-    → Accepted text at first words literals (readFrom text at first words literals)
-accepted text at first words literals m n e = go (readFrom text at first words literals) (each-judged text at first words literals) e
+pub accepted : (text : List ℕ) (at first : ℕ) (words literals : List ℕ) (m n : ℕ) → (read_from text at first words literals).answer ≡ Done m n
+    → Accepted text at first words literals (read_from text at first words literals)
+accepted text at first words literals m n e = go (read_from text at first words literals) (each_judged text at first words literals) e
   where
     go : (f : Filled) → Judged text at first words literals f → f.answer ≡ Done m n → Accepted text at first words literals f
-    go f (isListed w l x i) g = record { tableWords = w; tableLiterals = l; listed = x; result-is = i }
-    go f (hasNoRoom x i) g = let z : ◌≡◌ {A = ℕ} 0 1 = cc in absurd (omega arith)
-    go f (isWrongAt k x y i) g = let z : ◌≡◌ {A = ℕ} 0 1 = cc in absurd (omega arith)
+    go f (is_listed w l x i) g = record { table_words = w; table_literals = l; listed = x; result_is = i }
+    go f (has_no_room x i) g = let z : ◌≡◌ {A = ℕ} 0 1 = cc in absurd (omega arith)
+    go f (is_wrong_at k x y i) g = let z : ◌≡◌ {A = ℕ} 0 1 = cc in absurd (omega arith)
 
 -- ════ The plain meaning ════
 
-over-front : (front l : List ℕ) → take (length front) (over front l) ≡ front
+over_front : (front l : List ℕ) → take (length front) (over front l) ≡ front
 unfolding over
-over-front front l = take-append_seam front (drop (length front) l)
+over_front front l = take-append_seam front (drop (length front) l)
 
 -- a slice with a list in front tells the list, given its length
-pub front-is : (a b l : List ℕ) → length a ≡ length b → over a l ≡ over b l → a ≡ b
-front-is a b l n e = sym (over-front a l) ∙ ap (take (length a)) e ∙ ap (λ (z : ℕ). take z (over b l)) n ∙ over-front b l
+pub front_is : (a b l : List ℕ) → length a ≡ length b → over a l ≡ over b l → a ≡ b
+front_is a b l n e = sym (over_front a l) ∙ ap (take (length a)) e ∙ ap (λ (z : ℕ). take z (over b l)) n ∙ over_front b l
 
-pub accepted-exactly : AcceptedExactly
-accepted-exactly text at first words literals tableWords tableLiterals = (only, reads-back text at first words literals tableWords tableLiterals)
+pub accepted_exactly : AcceptedExactly
+accepted_exactly text at first words literals table_words table_literals = (only, reads_back text at first words literals table_words table_literals)
   where
-    only : readFrom text at first words literals ≡ fill tableWords tableLiterals words literals → Listed text at words literals tableWords tableLiterals
+    only : read_from text at first words literals ≡ fill table_words table_literals words literals → Listed text at words literals table_words table_literals
     only e =
-        let a = accepted text at first words literals (length tableWords) (length tableLiterals) (ap (λ (z : Filled). z.answer) e) in
-        let f : fill a.tableWords a.tableLiterals words literals ≡ fill tableWords tableLiterals words literals = sym a.result-is ∙ e in
-        let g : Done (length a.tableWords) (length a.tableLiterals) ≡ Done (length tableWords) (length tableLiterals) = ap (λ (z : Filled). z.answer) f in
-        let m : length a.tableWords ≡ length tableWords = cc in
-        let n : length a.tableLiterals ≡ length tableLiterals = cc in
-        let x : a.tableWords ≡ tableWords = front-is a.tableWords tableWords words m (ap (λ (z : Filled). z.words) f) in
-        let y : a.tableLiterals ≡ tableLiterals = front-is a.tableLiterals tableLiterals literals n (ap (λ (z : Filled). z.literals) f) in
-        subst (λ (z : List ℕ). Listed text at words literals tableWords z) y
-        (subst (λ (z : List ℕ). Listed text at words literals z a.tableLiterals) x a.listed)
+        let a = accepted text at first words literals (length table_words) (length table_literals) (ap (λ (z : Filled). z.answer) e) in
+        let f : fill a.table_words a.table_literals words literals ≡ fill table_words table_literals words literals = sym a.result_is ∙ e in
+        let g : Done (length a.table_words) (length a.table_literals) ≡ Done (length table_words) (length table_literals) = ap (λ (z : Filled). z.answer) f in
+        let m : length a.table_words ≡ length table_words = cc in
+        let n : length a.table_literals ≡ length table_literals = cc in
+        let x : a.table_words ≡ table_words = front_is a.table_words table_words words m (ap (λ (z : Filled). z.words) f) in
+        let y : a.table_literals ≡ table_literals = front_is a.table_literals table_literals literals n (ap (λ (z : Filled). z.literals) f) in
+        subst (λ (z : List ℕ). Listed text at words literals table_words z) y
+        (subst (λ (z : List ℕ). Listed text at words literals z a.table_literals) x a.listed)
 
 -- answers with two numbers are two
-apart : {A : Type 0} {f g h : Filled} → f ≡ g → f ≡ h → (readingNumber g.answer ≡ readingNumber h.answer → ⊥) → A
-apart i e n = absurd (n (ap (λ (z : Filled). readingNumber z.answer) (sym i ∙ e)))
+apart : {A : Type 0} {f g h : Filled} → f ≡ g → f ≡ h → (reading_number g.answer ≡ reading_number h.answer → ⊥) → A
+apart i e n = absurd (n (ap (λ (z : Filled). reading_number z.answer) (sym i ∙ e)))
 
-pub room-exactly : RoomExactly
-unfolding readingNumber
-room-exactly text at first words literals = (λ e. there (readFrom text at first words literals) (each-judged text at first words literals) e, back)
+pub room_exactly : RoomExactly
+unfolding reading_number
+room_exactly text at first words literals = (λ e. there (read_from text at first words literals) (each_judged text at first words literals) e, back)
   where
     there : (f : Filled) → Judged text at first words literals f → f ≡ filled Room words literals → NoRoom (drop at text) words literals
-    there f (hasNoRoom x i) e = x
-    there f (isListed w l x i) e = apart i e (λ z. omega arith)
-    there f (isWrongAt n x y i) e = apart i e (λ z. omega arith)
+    there f (has_no_room x i) e = x
+    there f (is_listed w l x i) e = apart i e (λ z. omega arith)
+    there f (is_wrong_at n x y i) e = apart i e (λ z. omega arith)
 
-    back : NoRoom (drop at text) words literals → readFrom text at first words literals ≡ filled Room words literals
-    back x = go (readFrom text at first words literals) (each-judged text at first words literals)
+    back : NoRoom (drop at text) words literals → read_from text at first words literals ≡ filled Room words literals
+    back x = go (read_from text at first words literals) (each_judged text at first words literals)
       where
         go : (f : Filled) → Judged text at first words literals f → f ≡ filled Room words literals
-        go f (hasNoRoom y i) = i
-        go f (isListed w l y i) =
-            let s = size-facts w (length l) y.table.size in
+        go f (has_no_room y i) = i
+        go f (is_listed w l y i) =
+            let s = size_facts w (length l) y.table.size in
             let b = begun text at first words literals w l y.table (ap (first_lines 3) (sym y.is)) in
-            absurd (enough text at first words literals (ruleCount w) (nodeCount w) (length l) b.0 b.1
-            (omega (arith, s.words_are, y.word_room)) y.literal-room x)
-        go f (isWrongAt n y room i) = absurd (room x)
+            absurd (enough text at first words literals (rule_count w) (node_count w) (length l) b.0 b.1
+            (omega (arith, s.words_are, y.word_room)) y.literal_room x)
+        go f (is_wrong_at n y room i) = absurd (room x)
 
 -- the line that is told, whatever its number
-pub told : (text : List ℕ) (at first m : ℕ) (words literals : List ℕ) → readFrom text at first words literals ≡ filled (Line m) words literals
+pub told : (text : List ℕ) (at first m : ℕ) (words literals : List ℕ) → read_from text at first words literals ≡ filled (Line m) words literals
     → (n : ℕ) × (m ≡ first + n) × FirstWrong IsListing (drop at text) n × (NoRoom (drop at text) words literals → ⊥)
-unfolding readingNumber readingPlace
-told text at first m words literals = go (readFrom text at first words literals) (each-judged text at first words literals)
+unfolding reading_number reading_place
+told text at first m words literals = go (read_from text at first words literals) (each_judged text at first words literals)
   where
     go : (f : Filled) → Judged text at first words literals f → f ≡ filled (Line m) words literals
         → (n : ℕ) × (m ≡ first + n) × FirstWrong IsListing (drop at text) n × (NoRoom (drop at text) words literals → ⊥)
-    go f (isWrongAt n x room i) e = (n, ap (λ (z : Filled). readingPlace z.answer) (sym e ∙ i), x, room)
-    go f (hasNoRoom x i) e = apart i e (λ z. omega arith)
-    go f (isListed w l x i) e = apart i e (λ z. omega arith)
+    go f (is_wrong_at n x room i) e = (n, ap (λ (z : Filled). reading_place z.answer) (sym e ∙ i), x, room)
+    go f (has_no_room x i) e = apart i e (λ z. omega arith)
+    go f (is_listed w l x i) e = apart i e (λ z. omega arith)
 
-pub line-exactly : LineExactly
-line-exactly text at first n words literals = (there, λ x. back x.0 x.1)
+pub line_exactly : LineExactly
+line_exactly text at first n words literals = (there, λ x. back x.0 x.1)
   where
-    there : readFrom text at first words literals ≡ filled (Line (first + n)) words literals
+    there : read_from text at first words literals ≡ filled (Line (first + n)) words literals
         → FirstWrong IsListing (drop at text) n × (NoRoom (drop at text) words literals → ⊥)
     there e =
         let t = told text at first (first + n) words literals e in
@@ -284,40 +284,40 @@ line-exactly text at first n words literals = (there, λ x. back x.0 x.1)
         (subst (FirstWrong IsListing (drop at text)) i t.2, t.3)
 
     back : FirstWrong IsListing (drop at text) n → (NoRoom (drop at text) words literals → ⊥)
-        → readFrom text at first words literals ≡ filled (Line (first + n)) words literals
-    back x room = go (readFrom text at first words literals) (each-judged text at first words literals)
+        → read_from text at first words literals ≡ filled (Line (first + n)) words literals
+    back x room = go (read_from text at first words literals) (each_judged text at first words literals)
       where
         go : (f : Filled) → Judged text at first words literals f → f ≡ filled (Line (first + n)) words literals
-        go f (isWrongAt m y r i) =
-            let j : m ≡ n = omega (arith, one-first m n y x, one-first n m x y) in
+        go f (is_wrong_at m y r i) =
+            let j : m ≡ n = omega (arith, one_first m n y x, one_first n m x y) in
             i ∙ ap (λ (z : ℕ). filled (Line (first + z)) words literals) j
-        go f (hasNoRoom y i) = absurd (room y)
-        go f (isListed w l y i) = absurd (x.none_right (drop at text) (record { tableWords = w; tableLiterals = l; table = y.table; is = y.is }) refl)
+        go f (has_no_room y i) = absurd (room y)
+        go f (is_listed w l y i) = absurd (x.none_right (drop at text) (record { table_words = w; table_literals = l; table = y.table; is = y.is }) refl)
 
 -- where there is no room, a wrong line comes after the third: 'ROOM is judged after line 3'
-pub after-third : {text words literals : List ℕ} (n : ℕ) → NoRoom text words literals → FirstWrong IsListing text n → 3 ≤ n
-after-third {text} n x f =
-    let t : List ℕ = listing x.tableWords x.tableLiterals in
-    let i : IsListing t = record { tableWords = x.tableWords; tableLiterals = x.tableLiterals; table = x.table; is = refl } in
-    let no : n < 3 → ⊥ = λ h. f.none_right t i (first-fewer (suc n) 3 t text h x.begins) in
+pub after_third : {text words literals : List ℕ} (n : ℕ) → NoRoom text words literals → FirstWrong IsListing text n → 3 ≤ n
+after_third {text} n x f =
+    let t : List ℕ = listing x.table_words x.table_literals in
+    let i : IsListing t = record { table_words = x.table_words; table_literals = x.table_literals; table = x.table; is = refl } in
+    let no : n < 3 → ⊥ = λ h. f.none_right t i (first_fewer (suc n) 3 t text h x.begins) in
     omega arith
 
 -- ════ Each accepted listing is written again byte for byte ════
 
 -- `out` is a slice with room for the listing
-pub written-again : (text : List ℕ) (at first : ℕ) (words literals out : List ℕ) (m n : ℕ) → (readFrom text at first words literals).answer ≡ Done m n
+pub written_again : (text : List ℕ) (at first : ℕ) (words literals out : List ℕ) (m n : ℕ) → (read_from text at first words literals).answer ≡ Done m n
     → length (drop at text) ≤ length out
-    → write (take m (readFrom text at first words literals).words) (take n (readFrom text at first words literals).literals) out
+    → write (take m (read_from text at first words literals).words) (take n (read_from text at first words literals).literals) out
     ≡ written (Wrote (length (drop at text))) (over (drop at text) out)
 unfolding write
-written-again text at first words literals out m n e h =
+written_again text at first words literals out m n e h =
     let a = accepted text at first words literals m n e in
     let l = a.listed in
-    let g : Done m n ≡ Done (length a.tableWords) (length a.tableLiterals) = sym e ∙ ap (λ (z : Filled). z.answer) a.result-is in
-    let i : m ≡ length a.tableWords = cc in
-    let j : n ≡ length a.tableLiterals = cc in
-    let x : take m (readFrom text at first words literals).words ≡ a.tableWords =
-    ap (λ (z : Filled). take m z.words) a.result-is ∙ ap (λ (z : ℕ). take z (over a.tableWords words)) i ∙ over-front a.tableWords words in
-    let y : take n (readFrom text at first words literals).literals ≡ a.tableLiterals =
-    ap (λ (z : Filled). take n z.literals) a.result-is ∙ ap (λ (z : ℕ). take z (over a.tableLiterals literals)) j ∙ over-front a.tableLiterals literals in
+    let g : Done m n ≡ Done (length a.table_words) (length a.table_literals) = sym e ∙ ap (λ (z : Filled). z.answer) a.result_is in
+    let i : m ≡ length a.table_words = cc in
+    let j : n ≡ length a.table_literals = cc in
+    let x : take m (read_from text at first words literals).words ≡ a.table_words =
+    ap (λ (z : Filled). take m z.words) a.result_is ∙ ap (λ (z : ℕ). take z (over a.table_words words)) i ∙ over_front a.table_words words in
+    let y : take n (read_from text at first words literals).literals ≡ a.table_literals =
+    ap (λ (z : Filled). take n z.literals) a.result_is ∙ ap (λ (z : ℕ). take z (over a.table_literals literals)) j ∙ over_front a.table_literals literals in
     rw (x, y, l.table.size, ← l.is, le-leb (length (drop at text)) (length out) h)

@@ -6,52 +6,52 @@ use native.Mathlib.Numerals.{sub-one}
 use native.Mathlib.Omega.{arith}
 use lib.ListN.{length, take, drop, get_or, length-append, length-drop, length-take, drop_of_length-le}
 use lib.Seq.{drop-drop}
-use Rattle.laws.specs.Parts.{drop-one, take_rest}
-use Rattle.grammar.specs.Words.{ruleCount, nodeCount}
+use Rattle.laws.specs.Parts.{drop_one, take_rest}
+use Rattle.grammar.specs.Words.{rule_count, node_count}
 use Rattle.text.specs.Written.{decimal, hex}
-use Rattle.text.proofs.Decimals.{decimal-length}
-use Rattle.text.proofs.Pairs.{hex-length}
-use Rattle.listing.specs.Listing.{rulesKey, nodesKey, literalsKey, ruleKey, nodeKey, ending, numbers, line, recordLines, literalsLine, headLines, bodyLines, listing}
+use Rattle.text.proofs.Decimals.{decimal_length}
+use Rattle.text.proofs.Pairs.{hex_length}
+use Rattle.listing.specs.Listing.{rules_key, nodes_key, literals_key, rule_key, node_key, ending, numbers, line, record_lines, literals_line, head_lines, body_lines, listing}
 use Rattle.table.proofs.Size.{Sized}
 
 -- ════ One after another ════
 
-pub numbers-one : (words : List ℕ) (i k : ℕ) → i < length words → k ≡ length words - (i + 1)
+pub numbers_one : (words : List ℕ) (i k : ℕ) → i < length words → k ≡ length words - (i + 1)
     → numbers (drop i words) ≡ (decimal (get_or words i 0) ++ (ending k ∷ [])) ++ numbers (drop (i + 1) words)
 unfolding numbers
-numbers-one words i k h e = rw (drop-one words i 0 h, e, append_assoc, length-drop)
+numbers_one words i k h e = rw (drop_one words i 0 h, e, append_assoc, length-drop)
 
-pub numbers-none : (words : List ℕ) (i : ℕ) → length words ≤ i → numbers (drop i words) ≡ []
+pub numbers_none : (words : List ℕ) (i : ℕ) → length words ≤ i → numbers (drop i words) ≡ []
 unfolding numbers
-numbers-none words i h = rw (drop_of_length-le words h)
+numbers_none words i h = rw (drop_of_length-le words h)
 
-pub line-is : (key ns : List ℕ) → key ++ numbers ns ≡ line key ns
+pub line_is : (key ns : List ℕ) → key ++ numbers ns ≡ line key ns
 unfolding line
-line-is key ns = refl
+line_is key ns = refl
 
 -- the words that are left hold one record more
-pub record-room : (from left width n : ℕ) → 0 < left → from + left * width ≤ n → (from + width ≤ n) × (from + width + (left - 1) * width ≤ n)
-record-room from zero width n h g = absurd (omega arith)
-record-room from (suc k) width n h g = rw (sub-one (suc k)) (omega arith, omega arith)
+pub record_room : (from left width n : ℕ) → 0 < left → from + left * width ≤ n → (from + width ≤ n) × (from + width + (left - 1) * width ≤ n)
+record_room from zero width n h g = absurd (omega arith)
+record_room from (suc k) width n h g = rw (sub-one (suc k)) (omega arith, omega arith)
 
-pub records-one : (key words : List ℕ) (width left from to : ℕ) → 0 < left → to ≡ from + width
-    → recordLines key width left (drop from words) ≡ line key (take (to - from) (drop from words)) ++ recordLines key width (left - 1) (drop to words)
-unfolding recordLines
-records-one key words width zero from to h e = absurd (omega arith)
-records-one key words width (suc k) from to h e =
+pub records_one : (key words : List ℕ) (width left from to : ℕ) → 0 < left → to ≡ from + width
+    → record_lines key width left (drop from words) ≡ line key (take (to - from) (drop from words)) ++ record_lines key width (left - 1) (drop to words)
+unfolding record_lines
+records_one key words width zero from to h e = absurd (omega arith)
+records_one key words width (suc k) from to h e =
     let w : to - from ≡ width = omega arith in
     rw (w, e, sub-one (suc k), drop-drop width from words)
 
-pub records-none : (key words : List ℕ) (width left : ℕ) → left ≤ 0 → recordLines key width left words ≡ []
-unfolding recordLines
-records-none key words width zero h = refl
-records-none key words width (suc k) h = absurd (omega arith)
+pub records_none : (key words : List ℕ) (width left : ℕ) → left ≤ 0 → record_lines key width left words ≡ []
+unfolding record_lines
+records_none key words width zero h = refl
+records_none key words width (suc k) h = absurd (omega arith)
 
 -- ════ The parts of a listing ════
 
-pub literals-is : (literals : List ℕ) → (literalsKey ++ hex literals) ++ (10 ∷ []) ≡ literalsLine literals
-unfolding literalsLine
-literals-is literals = append_assoc literalsKey (hex literals) (10 ∷ [])
+pub literals_is : (literals : List ℕ) → (literals_key ++ hex literals) ++ (10 ∷ []) ≡ literals_line literals
+unfolding literals_line
+literals_is literals = append_assoc literals_key (hex literals) (10 ∷ [])
 
 first_word : (words : List ℕ) → 2 ≤ length words → take 1 words ≡ get_or words 0 0 ∷ []
 first_word [] h = absurd (omega arith)
@@ -62,47 +62,47 @@ second_word [] h = absurd (omega arith)
 second_word (a ∷ []) h = absurd (omega arith)
 second_word (a ∷ b ∷ words) h = refl
 
-pub head-is : (words literals : List ℕ) → 2 ≤ length words
-    → (line rulesKey (take 1 words) ++ line nodesKey (take 1 (drop 1 words))) ++ literalsLine literals ≡ headLines words literals
-unfolding headLines
-head-is words literals h =
+pub head_is : (words literals : List ℕ) → 2 ≤ length words
+    → (line rules_key (take 1 words) ++ line nodes_key (take 1 (drop 1 words))) ++ literals_line literals ≡ head_lines words literals
+unfolding head_lines
+head_is words literals h =
     rw (first_word words h, second_word words h)
-    (append_assoc (line rulesKey (ruleCount words ∷ [])) (line nodesKey (nodeCount words ∷ [])) (literalsLine literals))
+    (append_assoc (line rules_key (rule_count words ∷ [])) (line nodes_key (node_count words ∷ [])) (literals_line literals))
 
 pub body_is : (rules nodes : ℕ) (words : List ℕ)
-    → recordLines ruleKey 15 rules (take (length words - 3) (drop 3 words))
-    ++ recordLines nodeKey 10 nodes (take (length words - (3 + 15 * rules)) (drop (3 + 15 * rules) words)) ≡ bodyLines rules nodes words
-unfolding bodyLines
+    → record_lines rule_key 15 rules (take (length words - 3) (drop 3 words))
+    ++ record_lines node_key 10 nodes (take (length words - (3 + 15 * rules)) (drop (3 + 15 * rules) words)) ≡ body_lines rules nodes words
+unfolding body_lines
 body_is rules nodes words = rw (take_rest words 3, take_rest words (3 + 15 * rules))
 
-pub listing-is : (words literals : List ℕ) (rules nodes : ℕ) → rules ≡ ruleCount words → nodes ≡ nodeCount words
-    → headLines words literals ++ bodyLines rules nodes words ≡ listing words literals
+pub listing_is : (words literals : List ℕ) (rules nodes : ℕ) → rules ≡ rule_count words → nodes ≡ node_count words
+    → head_lines words literals ++ body_lines rules nodes words ≡ listing words literals
 unfolding listing
-listing-is words literals rules nodes e f = rw (e, f)
+listing_is words literals rules nodes e f = rw (e, f)
 
 -- ════ How long a listing is at most ════
 
-numbers-most : (ns : List ℕ) → length (numbers ns) ≤ 11 * length ns
+numbers_most : (ns : List ℕ) → length (numbers ns) ≤ 11 * length ns
 unfolding numbers
-numbers-most [] = omega arith
-numbers-most (n ∷ ns) = simp length-append (omega (arith, decimal-length n, numbers-most ns))
+numbers_most [] = omega arith
+numbers_most (n ∷ ns) = simp length-append (omega (arith, decimal_length n, numbers_most ns))
 
-records-most : (key : List ℕ) (width count : ℕ) (words : List ℕ) → length (recordLines key width count words) ≤ count * (length key + 11 * width)
-unfolding recordLines line
-records-most key width zero words = omega arith
-records-most key width (suc count) words =
-    simp length-append (omega (arith, numbers-most (take width words), length-take width words, records-most key width count (drop width words)))
+records_most : (key : List ℕ) (width count : ℕ) (words : List ℕ) → length (record_lines key width count words) ≤ count * (length key + 11 * width)
+unfolding record_lines line
+records_most key width zero words = omega arith
+records_most key width (suc count) words =
+    simp length-append (omega (arith, numbers_most (take width words), length-take width words, records_most key width count (drop width words)))
 
 -- so it can be measured
-pub listing-most : (words literals : List ℕ) → Sized words (length literals) → length (listing words literals) < 200000
-unfolding listing headLines literalsLine line bodyLines
-listing-most words literals s =
+pub listing_most : (words literals : List ℕ) → Sized words (length literals) → length (listing words literals) < 200000
+unfolding listing head_lines literals_line line body_lines
+listing_most words literals s =
     simp length-append
     (omega (
       arith,
-      hex-length literals,
-      numbers-most (ruleCount words ∷ []),
-      numbers-most (nodeCount words ∷ []),
-      records-most ruleKey 15 (ruleCount words) (drop 3 words),
-      records-most nodeKey 10 (nodeCount words) (drop (3 + 15 * ruleCount words) words),
+      hex_length literals,
+      numbers_most (rule_count words ∷ []),
+      numbers_most (node_count words ∷ []),
+      records_most rule_key 15 (rule_count words) (drop 3 words),
+      records_most node_key 10 (node_count words) (drop (3 + 15 * rule_count words) words),
     ))

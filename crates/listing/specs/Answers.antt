@@ -7,39 +7,39 @@ use Rattle.listing.specs.declared.Writing.{Writing}
 use Rattle.listing.specs.declared.Writing.TheVariants as W
 use Rattle.listing.specs.Numbers.{LINE, ROOM, OUT}
 
-unfoldable pub readingNumber : Reading → ℕ
-readingNumber (R.Done words literals) = DONE
-readingNumber (R.Line n) = LINE
-readingNumber R.Room = ROOM
+unfoldable pub reading_number : Reading → ℕ
+reading_number (R.Done words literals) = DONE
+reading_number (R.Line n) = LINE
+reading_number R.Room = ROOM
 
-unfoldable pub readingPlace : Reading → ℕ
-readingPlace (R.Done words literals) = 0
-readingPlace (R.Line n) = n
-readingPlace R.Room = 0
+unfoldable pub reading_place : Reading → ℕ
+reading_place (R.Done words literals) = 0
+reading_place (R.Line n) = n
+reading_place R.Room = 0
 
 -- 'success tells the lengths': of words and literals that were filled
-unfoldable pub readingWords : Reading → ℕ
-readingWords (R.Done words literals) = words
-readingWords (R.Line n) = 0
-readingWords R.Room = 0
+unfoldable pub reading_words : Reading → ℕ
+reading_words (R.Done words literals) = words
+reading_words (R.Line n) = 0
+reading_words R.Room = 0
 
-unfoldable pub readingLiterals : Reading → ℕ
-readingLiterals (R.Done words literals) = literals
-readingLiterals (R.Line n) = 0
-readingLiterals R.Room = 0
+unfoldable pub reading_literals : Reading → ℕ
+reading_literals (R.Done words literals) = literals
+reading_literals (R.Line n) = 0
+reading_literals R.Room = 0
 
-unfoldable pub writingNumber : Writing → ℕ
-writingNumber (W.Done bytes) = DONE
-writingNumber W.Size = SIZE
-writingNumber W.Out = OUT
+unfoldable pub writing_number : Writing → ℕ
+writing_number (W.Done bytes) = DONE
+writing_number W.Size = SIZE
+writing_number W.Out = OUT
 
-unfoldable pub writingPlace : Writing → ℕ
-writingPlace (W.Done bytes) = 0
-writingPlace W.Size = 0
-writingPlace W.Out = 0
+unfoldable pub writing_place : Writing → ℕ
+writing_place (W.Done bytes) = 0
+writing_place W.Size = 0
+writing_place W.Out = 0
 
 -- 'success tells the lengths': of the text that was filled
-unfoldable pub writingLength : Writing → ℕ
-writingLength (W.Done bytes) = bytes
-writingLength W.Size = 0
-writingLength W.Out = 0
+unfoldable pub writing_length : Writing → ℕ
+writing_length (W.Done bytes) = bytes
+writing_length W.Size = 0
+writing_length W.Out = 0

@@ -2,31 +2,31 @@
 -- other text. proofs/Exactly.antt proves all of it. Assumes nothing.
 use Rattle.std.specs.Prelude.{◌≡◌, ◌≢◌, ◌↔◌, ◌⊎◌, List, [], ◌∷◌, true, cond, ℕ, zero, suc, ◌+◌, ◌≤◌, ◌<◌, eqb, length, drop}
 use Rattle.laws.specs.Below.{AllBelow}
-use Rattle.grammar.specs.Form.{sizeOk}
+use Rattle.grammar.specs.Form.{size_ok}
 use Rattle.listing.specs.declared.Reading.TheVariants.{Line, Room}
 use Rattle.listing.specs.Listing.{listing}
-use Rattle.listing.specs.Reading.{Filled, filled, fill, readFrom}
+use Rattle.listing.specs.Reading.{Filled, filled, fill, read_from}
 
 -- ════ Listings ════
 
 -- a table of right size, which is 16-bit words and bytes
 pub record Table (words literals : List ℕ) : Type 0 where
-  pub size : sizeOk words (length literals) ≡ true
-  pub words-fit : AllBelow 65536 words
-  pub literals-fit : AllBelow 256 literals
+  pub size : size_ok words (length literals) ≡ true
+  pub words_fit : AllBelow 65536 words
+  pub literals_fit : AllBelow 256 literals
 
 -- the text from a place on is the table's listing, and the two slices have room for the table
-pub record Listed (text : List ℕ) (at : ℕ) (words literals tableWords tableLiterals : List ℕ) : Type 0 where
-  pub table : Table tableWords tableLiterals
-  pub is : drop at text ≡ listing tableWords tableLiterals
-  pub word_room : length tableWords ≤ length words
-  pub literal-room : length tableLiterals ≤ length literals
+pub record Listed (text : List ℕ) (at : ℕ) (words literals table_words table_literals : List ℕ) : Type 0 where
+  pub table : Table table_words table_literals
+  pub is : drop at text ≡ listing table_words table_literals
+  pub word_room : length table_words ≤ length words
+  pub literal_room : length table_literals ≤ length literals
 
 -- a text is accepted exactly if it is the listing of a table of right size, given room
 abbrev pub AcceptedExactly : Type 0
 AcceptedExactly =
-    (text : List ℕ) (at first : ℕ) (words literals tableWords tableLiterals : List ℕ)
-    → (readFrom text at first words literals ≡ fill tableWords tableLiterals words literals) ↔ Listed text at words literals tableWords tableLiterals
+    (text : List ℕ) (at first : ℕ) (words literals table_words table_literals : List ℕ)
+    → (read_from text at first words literals ≡ fill table_words table_literals words literals) ↔ Listed text at words literals table_words table_literals
 
 -- ════ The answer to any other text ════
 
@@ -44,38 +44,38 @@ pub record FirstWrong (Right : List ℕ → Type 0) (text : List ℕ) (n : ℕ) 
 
 -- 'Head values keep SIZE's ranges, else LINE': the right texts are the listings of tables of right size
 pub record IsListing (text : List ℕ) : Type 0 where
-  pub tableWords : List ℕ
-  pub tableLiterals : List ℕ
-  pub table : Table tableWords tableLiterals
-  pub is : text ≡ listing tableWords tableLiterals
+  pub table_words : List ℕ
+  pub table_literals : List ℕ
+  pub table : Table table_words table_literals
+  pub is : text ≡ listing table_words table_literals
 
 -- 'reader's word or literal slice too short', 'judged after line 3': the first three lines are those of a table with more words or more literals
 -- than the slices
 pub record NoRoom (text words literals : List ℕ) : Type 0 where
-  pub tableWords : List ℕ
-  pub tableLiterals : List ℕ
-  pub table : Table tableWords tableLiterals
-  pub begins : first_lines 3 (listing tableWords tableLiterals) ≡ first_lines 3 text
-  pub longer : (length words < length tableWords) ⊎ (length literals < length tableLiterals)
+  pub table_words : List ℕ
+  pub table_literals : List ℕ
+  pub table : Table table_words table_literals
+  pub begins : first_lines 3 (listing table_words table_literals) ≡ first_lines 3 text
+  pub longer : (length words < length table_words) ⊎ (length literals < length table_literals)
 
 -- ROOM comes exactly there, and 'A refusal writes nothing'
 abbrev pub RoomExactly : Type 0
 RoomExactly =
     (text : List ℕ) (at first : ℕ) (words literals : List ℕ)
-    → (readFrom text at first words literals ≡ filled Room words literals) ↔ NoRoom (drop at text) words literals
+    → (read_from text at first words literals ≡ filled Room words literals) ↔ NoRoom (drop at text) words literals
 
--- 'listing line wrong or missing', 'its number, from 1' (`first`, in general). Where there is no room the first three lines are right (`after-third`
+-- 'listing line wrong or missing', 'its number, from 1' (`first`, in general). Where there is no room the first three lines are right (`after_third`
 -- in proofs/Exactly.antt): so a wrong one among these is told whatever the slices are, and any after them given room
 abbrev pub LineExactly : Type 0
 LineExactly =
     (text : List ℕ) (at first n : ℕ) (words literals : List ℕ)
-    → (readFrom text at first words literals ≡ filled (Line (first + n)) words literals)
+    → (read_from text at first words literals ≡ filled (Line (first + n)) words literals)
     ↔ (FirstWrong IsListing (drop at text) n × (NoRoom (drop at text) words literals → ⊥))
 
 -- one of the three comes, so that the three statements together leave no text out
 pub data Judged (text : List ℕ) (at first : ℕ) (words literals : List ℕ) (result : Filled) : Type 0 where
-  isListed : (tableWords tableLiterals : List ℕ) → Listed text at words literals tableWords tableLiterals → result ≡ fill tableWords tableLiterals words literals
+  is_listed : (table_words table_literals : List ℕ) → Listed text at words literals table_words table_literals → result ≡ fill table_words table_literals words literals
       → Judged text at first words literals result
-  hasNoRoom : NoRoom (drop at text) words literals → result ≡ filled Room words literals → Judged text at first words literals result
-  isWrongAt : (n : ℕ) → FirstWrong IsListing (drop at text) n → (NoRoom (drop at text) words literals → ⊥) → result ≡ filled (Line (first + n)) words literals
+  has_no_room : NoRoom (drop at text) words literals → result ≡ filled Room words literals → Judged text at first words literals result
+  is_wrong_at : (n : ℕ) → FirstWrong IsListing (drop at text) n → (NoRoom (drop at text) words literals → ⊥) → result ≡ filled (Line (first + n)) words literals
       → Judged text at first words literals result

@@ -10,90 +10,90 @@ use Rattle.text.specs.declared.Number.TheVariants as N
 use Rattle.text.specs.declared.Bytes.{Bytes}
 use Rattle.text.specs.declared.Bytes.TheVariants as B
 use Rattle.text.specs.Stored.{Taken, taking, also}
-use Rattle.text.specs.Found.{onPlace, onNumber, onBytes, afterKey, number, pairs}
+use Rattle.text.specs.Found.{on_place, on_number, on_bytes, after_key, number, pairs}
 use Rattle.listing.specs.declared.reader.Lines.{Lines}
 use Rattle.listing.specs.declared.reader.Lines.TheVariants as L
 use Rattle.listing.specs.declared.reader.Head.{Head}
 use Rattle.listing.specs.declared.reader.Head.TheVariants as H
 use Rattle.listing.specs.declared.Reading.{Reading}
 use Rattle.listing.specs.declared.Reading.TheVariants.{Done, Line, Room}
-use Rattle.listing.specs.Listing.{rulesKey, nodesKey, literalsKey, ruleKey, nodeKey, ending}
+use Rattle.listing.specs.Listing.{rules_key, nodes_key, literals_key, rule_key, node_key, ending}
 use Rattle.laws.specs.Range.{within}
 
-abbrev pub onLines : {A : Type 0} → (ℕ → A) → (ℕ → A) → Lines → A
-onLines wrong at (L.At q) = at q
-onLines wrong at (L.Wrong n) = wrong n
+abbrev pub on_lines : {A : Type 0} → (ℕ → A) → (ℕ → A) → Lines → A
+on_lines wrong at (L.At q) = at q
+on_lines wrong at (L.Wrong n) = wrong n
 
-abbrev pub onHead : {A : Type 0} → (ℕ → A) → (ℕ → ℕ → ℕ → ℕ → A) → Head → A
-onHead wrong is (H.Is rules nodes literals q) = is rules nodes literals q
-onHead wrong is (H.Wrong n) = wrong n
+abbrev pub on_head : {A : Type 0} → (ℕ → A) → (ℕ → ℕ → ℕ → ℕ → A) → Head → A
+on_head wrong is (H.Is rules nodes literals q) = is rules nodes literals q
+on_head wrong is (H.Wrong n) = wrong n
 
 -- 'Head values keep SIZE's ranges, else LINE'
-abbrev pub numberWithin : (low high : ℕ) → Number → Number
-numberWithin low high found = onNumber N.Wrong (λ n q. cond (within low high n) (N.Is n q) N.Wrong) found
+abbrev pub number_within : (low high : ℕ) → Number → Number
+number_within low high found = on_number N.Wrong (λ n q. cond (within low high n) (N.Is n q) N.Wrong) found
 
-abbrev pub pairsWithin : (low high : ℕ) → Taken Bytes → Taken Bytes
-pairsWithin low high t = taking t.numbers (onBytes B.Wrong (λ n q. cond (within low high n) (B.Are n q) B.Wrong) t.found)
+abbrev pub pairs_within : (low high : ℕ) → Taken Bytes → Taken Bytes
+pairs_within low high t = taking t.numbers (on_bytes B.Wrong (λ n q. cond (within low high n) (B.Are n q) B.Wrong) t.found)
 
 module _ (text : List ℕ) where
   -- 'Decimals 0 to 65535, no leading zero', to the byte `end`
-  abbrev pub decimalAt : (end p : ℕ) → Number
-  decimalAt end p = number end 65535 p (drop p text)
+  abbrev pub decimal_at : (end p : ℕ) → Number
+  decimal_at end p = number end 65535 p (drop p text)
 
   abbrev pub key_at : (key : List ℕ) (p : ℕ) → Place
-  key_at key p = afterKey key p (drop p text)
+  key_at key p = after_key key p (drop p text)
 
   -- ════ Lines of records ════
 
   -- the decimals of a line, `count` of them
-  unfoldable pub numbersAt : (count p : ℕ) → Taken Place
-  numbersAt zero p = taking [] (ToPlace p)
-  numbersAt (suc count) p = onNumber (taking [] NoPlace) (λ n q. also (n ∷ []) (numbersAt count q)) (decimalAt (ending count) p)
+  unfoldable pub numbers_at : (count p : ℕ) → Taken Place
+  numbers_at zero p = taking [] (ToPlace p)
+  numbers_at (suc count) p = on_number (taking [] NoPlace) (λ n q. also (n ∷ []) (numbers_at count q)) (decimal_at (ending count) p)
 
   unfoldable pub line_at : (key : List ℕ) (count p : ℕ) → Taken Place
-  line_at key count p = onPlace (taking [] NoPlace) (λ q. numbersAt count q) (key_at key p)
+  line_at key count p = on_place (taking [] NoPlace) (λ q. numbers_at count q) (key_at key p)
 
   -- `count` lines of `width` numbers, the first of them with the number n: the place after them, or the number of the first that is wrong
-  unfoldable pub linesAt : (key : List ℕ) (width count n p : ℕ) → Taken Lines
-  linesAt key width zero n p = taking [] (L.At p)
-  linesAt key width (suc count) n p =
+  unfoldable pub lines_at : (key : List ℕ) (width count n p : ℕ) → Taken Lines
+  lines_at key width zero n p = taking [] (L.At p)
+  lines_at key width (suc count) n p =
       also (line_at key width p).numbers
-      (onPlace (taking [] (L.Wrong n)) (λ q. linesAt key width count (n + 1) q) (line_at key width p).found)
+      (on_place (taking [] (L.Wrong n)) (λ q. lines_at key width count (n + 1) q) (line_at key width p).found)
 
   -- ════ The first three lines ════
 
-  unfoldable pub countAt : (key : List ℕ) (low high p : ℕ) → Number
-  countAt key low high p = onPlace N.Wrong (λ q. numberWithin low high (decimalAt 10 q)) (key_at key p)
+  unfoldable pub count_at : (key : List ℕ) (low high p : ℕ) → Number
+  count_at key low high p = on_place N.Wrong (λ q. number_within low high (decimal_at 10 q)) (key_at key p)
 
-  unfoldable pub literalsAt : ℕ → Taken Bytes
-  literalsAt p = onPlace (taking [] B.Wrong) (λ q. pairsWithin 0 4096 (pairs 0 q (drop q text))) (key_at literalsKey p)
+  unfoldable pub literals_at : ℕ → Taken Bytes
+  literals_at p = on_place (taking [] B.Wrong) (λ q. pairs_within 0 4096 (pairs 0 q (drop q text))) (key_at literals_key p)
 
-  abbrev pub thirdLine : (first rules nodes p : ℕ) → Taken Head
-  thirdLine first rules nodes p =
-      taking (literalsAt p).numbers (onBytes (H.Wrong (first + 2)) (λ literals q. H.Is rules nodes literals q) (literalsAt p).found)
+  abbrev pub third_line : (first rules nodes p : ℕ) → Taken Head
+  third_line first rules nodes p =
+      taking (literals_at p).numbers (on_bytes (H.Wrong (first + 2)) (λ literals q. H.Is rules nodes literals q) (literals_at p).found)
 
-  abbrev pub secondLine : (first rules p : ℕ) → Taken Head
-  secondLine first rules p = onNumber (taking [] (H.Wrong (first + 1))) (λ nodes q. thirdLine first rules nodes q) (countAt nodesKey 1 1024 p)
+  abbrev pub second_line : (first rules p : ℕ) → Taken Head
+  second_line first rules p = on_number (taking [] (H.Wrong (first + 1))) (λ nodes q. third_line first rules nodes q) (count_at nodes_key 1 1024 p)
 
   -- R, K, the literals and the place of the fourth line
-  unfoldable pub headAt : (first p : ℕ) → Taken Head
-  headAt first p = onNumber (taking [] (H.Wrong first)) (λ rules q. secondLine first rules q) (countAt rulesKey 1 64 p)
+  unfoldable pub head_at : (first p : ℕ) → Taken Head
+  head_at first p = on_number (taking [] (H.Wrong first)) (λ rules q. second_line first rules q) (count_at rules_key 1 64 p)
 
   -- ════ The other lines ════
 
   -- 'nothing after'; 'Bytes past the last line count as one more line, which is wrong'
   abbrev pub ended : (n : ℕ) → Lines → Lines
-  ended n found = onLines L.Wrong (λ q. cond (eqb q (length text)) (L.At q) (L.Wrong n)) found
+  ended n found = on_lines L.Wrong (λ q. cond (eqb q (length text)) (L.At q) (L.Wrong n)) found
 
-  abbrev pub nodeLinesAt : (nodes n p : ℕ) → Taken Lines
-  nodeLinesAt nodes n p =
-      taking (linesAt nodeKey 10 nodes n p).numbers (ended (n + nodes) (linesAt nodeKey 10 nodes n p).found)
+  abbrev pub node_lines_at : (nodes n p : ℕ) → Taken Lines
+  node_lines_at nodes n p =
+      taking (lines_at node_key 10 nodes n p).numbers (ended (n + nodes) (lines_at node_key 10 nodes n p).found)
 
   -- R lines `rule=`, K lines `node=`, the first of them with the number n
   unfoldable pub body_at : (rules nodes n p : ℕ) → Taken Lines
   body_at rules nodes n p =
-      also (linesAt ruleKey 15 rules n p).numbers
-      (onLines (λ m. taking [] (L.Wrong m)) (λ q. nodeLinesAt nodes (n + rules) q) (linesAt ruleKey 15 rules n p).found)
+      also (lines_at rule_key 15 rules n p).numbers
+      (on_lines (λ m. taking [] (L.Wrong m)) (λ q. node_lines_at nodes (n + rules) q) (lines_at rule_key 15 rules n p).found)
 
 -- ════ The whole ════
 
@@ -107,33 +107,33 @@ abbrev pub filled : Reading → (words literals : List ℕ) → Filled
 filled answer words literals = record { answer = answer; words = words; literals = literals }
 
 -- 'The reader fills just the words and literals of the table'; 'success tells the lengths'
-abbrev pub fill : (tableWords tableLiterals words literals : List ℕ) → Filled
-fill tableWords tableLiterals words literals =
-    filled (Done (length tableWords) (length tableLiterals)) (over tableWords words) (over tableLiterals literals)
+abbrev pub fill : (table_words table_literals words literals : List ℕ) → Filled
+fill table_words table_literals words literals =
+    filled (Done (length table_words) (length table_literals)) (over table_words words) (over table_literals literals)
 
 module _ (text : List ℕ) (first : ℕ) (words literals : List ℕ) where
   -- 'A refusal writes nothing'
   abbrev pub refused : Reading → Filled
   refused answer = filled answer words literals
 
-  abbrev pub read_body : (rules nodes literalBytes p : ℕ) (tableLiterals : List ℕ) → Filled
-  read_body rules nodes literalBytes p tableLiterals =
+  abbrev pub read_body : (rules nodes literal_bytes p : ℕ) (table_literals : List ℕ) → Filled
+  read_body rules nodes literal_bytes p table_literals =
       let body = body_at text rules nodes (first + 3) p in
-      onLines (λ n. refused (Line n)) (λ q. fill (rules ∷ nodes ∷ literalBytes ∷ body.numbers) tableLiterals words literals) body.found
+      on_lines (λ n. refused (Line n)) (λ q. fill (rules ∷ nodes ∷ literal_bytes ∷ body.numbers) table_literals words literals) body.found
 
   -- 'ROOM is judged after line 3'
-  unfoldable pub readRest : (rules nodes literalBytes p : ℕ) (tableLiterals : List ℕ) → Filled
-  readRest rules nodes literalBytes p tableLiterals =
+  unfoldable pub read_rest : (rules nodes literal_bytes p : ℕ) (table_literals : List ℕ) → Filled
+  read_rest rules nodes literal_bytes p table_literals =
       cond (ltb (length words) (3 + 15 * rules + 10 * nodes)) (refused Room)
-      (cond (ltb (length literals) literalBytes) (refused Room) (read_body rules nodes literalBytes p tableLiterals))
+      (cond (ltb (length literals) literal_bytes) (refused Room) (read_body rules nodes literal_bytes p table_literals))
 
 -- a listing that stands in the text from a place on, its first line having the number `first`
-unfoldable pub readFrom : (text : List ℕ) (at first : ℕ) (words literals : List ℕ) → Filled
-readFrom text at first words literals =
-    onHead (λ n. refused text first words literals (Line n))
-    (λ rules nodes literalBytes p. readRest text first words literals rules nodes literalBytes p (headAt text first at).numbers)
-    (headAt text first at).found
+unfoldable pub read_from : (text : List ℕ) (at first : ℕ) (words literals : List ℕ) → Filled
+read_from text at first words literals =
+    on_head (λ n. refused text first words literals (Line n))
+    (λ rules nodes literal_bytes p. read_rest text first words literals rules nodes literal_bytes p (head_at text first at).numbers)
+    (head_at text first at).found
 
 -- a text that is a listing: LINE has 'its number, from 1'
 abbrev pub read : (text words literals : List ℕ) → Filled
-read text words literals = readFrom text 0 1 words literals
+read text words literals = read_from text 0 1 words literals

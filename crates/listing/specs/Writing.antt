@@ -1,7 +1,7 @@
 -- What the writer answers, and what the text's slice holds then (document 01, 'Listing and console'). Assumes nothing.
 use Rattle.std.specs.Prelude.{List, cond, ℕ, leb, length}
 use Rattle.laws.specs.Stores.{over}
-use Rattle.grammar.specs.Form.{sizeOk}
+use Rattle.grammar.specs.Form.{size_ok}
 use Rattle.listing.specs.declared.Writing.{Writing}
 use Rattle.listing.specs.declared.Writing.TheVariants.{Done, Size, Out}
 use Rattle.listing.specs.Listing.{listing}
@@ -16,7 +16,7 @@ written answer text = record { answer = answer; text = text }
 -- 'the writer refuses SIZE, then OUT, and fills just the text. A refusal writes nothing; success tells the lengths'
 unfoldable pub write : (words literals text : List ℕ) → Written
 write words literals text =
-    cond (sizeOk words (length literals))
+    cond (size_ok words (length literals))
     (cond (leb (length (listing words literals)) (length text))
     (written (Done (length (listing words literals))) (over (listing words literals) text))
     (written Out text))

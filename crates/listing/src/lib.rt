@@ -2,7 +2,7 @@
 // Writer and reader go over their text twice with the same functions: the first time with an empty slice, which measures or judges and stores nothing.
 ghost use Rattle.std.specs.Prelude.{◌≡◌};
 ghost use Rattle.listing.specs.Writing.{write, written};
-ghost use Rattle.listing.specs.Reading.{readFrom, read, filled};
+ghost use Rattle.listing.specs.Reading.{read_from, read, filled};
 
 mod reader;
 mod writer;
@@ -50,7 +50,7 @@ pub fn read_from(
     words: &mut [u16],
     literals: &mut [u8],
 ) -> Reading
-    ensures { filled result words.new literals.new ≡ readFrom text.now at first words.old literals.old }
+    ensures { filled result words.new literals.new ≡ read_from text.now at first words.old literals.old }
 {
     let judging = 0;
     let number = first as u32;

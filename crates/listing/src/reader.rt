@@ -1,7 +1,7 @@
 // Lines, taken off a text from a place on.
 ghost use Rattle.std.specs.Prelude.{◌≡◌, [], ◌∷◌, ◌+◌, ◌≤◌, ◌*◌};
-ghost use Rattle.text.specs.Stored.{Wrote, Took, also, largestPlace};
-ghost use Rattle.listing.specs.Reading.{numbersAt, line_at, linesAt, countAt, literalsAt, headAt, body_at};
+ghost use Rattle.text.specs.Stored.{Wrote, Took, also, largest_place};
+ghost use Rattle.listing.specs.Reading.{numbers_at, line_at, lines_at, count_at, literals_at, head_at, body_at};
 
 use crate::writer::ending_of;
 use table::sizes::in_range;
@@ -23,7 +23,7 @@ pub enum Head {
 
 // Stores a word, and nothing past the slice's end; the next place.
 fn store(words: &mut [u16], at: usize, word: u16) -> usize
-    requires { at + 1 ≤ largestPlace }
+    requires { at + 1 ≤ largest_place }
     ensures { Wrote words.old at (word ∷ []) result words.new }
 {
     if words.len() <= at {
@@ -34,8 +34,8 @@ fn store(words: &mut [u16], at: usize, word: u16) -> usize
 }
 
 fn read_numbers(text: &[u8], at: usize, words: &mut [u16], from: usize, count: usize) -> Place
-    requires { from + count ≤ largestPlace }
-    ensures { Took (numbersAt text.now count at) words.old from result words.new }
+    requires { from + count ≤ largest_place }
+    ensures { Took (numbers_at text.now count at) words.old from result words.new }
 {
     let mut p = at;
     let mut i = from;
@@ -59,7 +59,7 @@ fn read_line(
     from: usize,
     count: usize,
 ) -> Place
-    requires { from + count ≤ largestPlace }
+    requires { from + count ≤ largest_place }
     ensures { Took (line_at text.now key.now count at) words.old from result words.new }
 {
     let Place::At(p) = text::after_key(text, at, key) else {
@@ -79,8 +79,8 @@ fn read_lines(
     words: &mut [u16],
     from: usize,
 ) -> Lines
-    requires { (from + count * width ≤ largestPlace) × (number + count ≤ 4294967295) }
-    ensures { Took (linesAt text.now key.now width count number at) words.old from result words.new }
+    requires { (from + count * width ≤ largest_place) × (number + count ≤ 4294967295) }
+    ensures { Took (lines_at text.now key.now width count number at) words.old from result words.new }
 {
     let mut p = at;
     let mut i = from;
@@ -100,7 +100,7 @@ fn read_lines(
 
 // A line of the head: "Head values keep SIZE's ranges, else LINE".
 fn read_count(text: &[u8], at: usize, key: &[u8], low: usize, high: usize) -> Number
-    ensures { result ≡ countAt text.now key.now low high at }
+    ensures { result ≡ count_at text.now key.now low high at }
 {
     let Place::At(p) = text::after_key(text, at, key) else {
         return Number::Wrong;
@@ -116,7 +116,7 @@ fn read_count(text: &[u8], at: usize, key: &[u8], low: usize, high: usize) -> Nu
 }
 
 fn read_literals(text: &[u8], at: usize, literals: &mut [u8]) -> Bytes
-    ensures { Took (literalsAt text.now at) literals.old 0 result literals.new }
+    ensures { Took (literals_at text.now at) literals.old 0 result literals.new }
 {
     let Place::At(p) = text::after_key(text, at, b"literals=") else {
         return Bytes::Wrong;
@@ -134,7 +134,7 @@ fn read_literals(text: &[u8], at: usize, literals: &mut [u8]) -> Bytes
 // The first three lines: stores the literals.
 pub(crate) fn read_head(text: &[u8], at: usize, first: u32, literals: &mut [u8]) -> Head
     requires { first ≤ 65535 }
-    ensures { Took (headAt text.now first at) literals.old 0 result literals.new }
+    ensures { Took (head_at text.now first at) literals.old 0 result literals.new }
 {
     let Number::Is(rules, a) = read_count(text, at, b"rules=", 1, 64) else {
         return Head::Wrong(first);

@@ -1,8 +1,8 @@
 // Lines, put into a slice from a place on.
 ghost use Rattle.std.specs.Prelude.{◌≡◌, true, ◌+◌, ◌≤◌, ◌*◌, length};
-ghost use Rattle.grammar.specs.Form.{sizeOk};
+ghost use Rattle.grammar.specs.Form.{size_ok};
 ghost use Rattle.text.specs.Stored.{Wrote};
-ghost use Rattle.listing.specs.Listing.{ending, numbers, line, recordLines, literalsLine, headLines, bodyLines, listing};
+ghost use Rattle.listing.specs.Listing.{ending, numbers, line, record_lines, literals_line, head_lines, body_lines, listing};
 
 use table::sizes::wide;
 
@@ -45,7 +45,7 @@ fn put_records(
     words: &[u16],
 ) -> usize
     requires { count * width ≤ length words.now }
-    ensures { Wrote text.old at (recordLines key.now width count words.now) result text.new }
+    ensures { Wrote text.old at (record_lines key.now width count words.now) result text.new }
 {
     let mut next = at;
     let mut from = 0;
@@ -60,7 +60,7 @@ fn put_records(
 }
 
 fn put_literals(text: &mut [u8], at: usize, literals: &[u8]) -> usize
-    ensures { Wrote text.old at (literalsLine literals.now) result text.new }
+    ensures { Wrote text.old at (literals_line literals.now) result text.new }
 {
     let a = text::put_bytes(text, at, b"literals=");
     let b = text::put_hex(text, a, literals);
@@ -69,7 +69,7 @@ fn put_literals(text: &mut [u8], at: usize, literals: &[u8]) -> usize
 
 fn put_head(text: &mut [u8], at: usize, words: &[u16], literals: &[u8]) -> usize
     requires { 2 ≤ length words.now }
-    ensures { Wrote text.old at (headLines words.now literals.now) result text.new }
+    ensures { Wrote text.old at (head_lines words.now literals.now) result text.new }
 {
     let a = put_line(text, at, b"rules=", &words[0..1]);
     let b = put_line(text, a, b"nodes=", &words[1..2]);
@@ -78,7 +78,7 @@ fn put_head(text: &mut [u8], at: usize, words: &[u16], literals: &[u8]) -> usize
 
 fn put_body(text: &mut [u8], at: usize, words: &[u16], rules: usize, nodes: usize) -> usize
     requires { (rules ≤ 64) × ((nodes ≤ 1024) × (length words.now ≡ 3 + 15 * rules + 10 * nodes)) }
-    ensures { Wrote text.old at (bodyLines rules nodes words.now) result text.new }
+    ensures { Wrote text.old at (body_lines rules nodes words.now) result text.new }
 {
     let start = 3 + 15 * rules;
     let next = put_records(text, at, b"rule=", 15, rules, &words[3..]);
@@ -87,7 +87,7 @@ fn put_body(text: &mut [u8], at: usize, words: &[u16], rules: usize, nodes: usiz
 
 // The listing of a table of right size.
 pub(crate) fn put_listing(text: &mut [u8], at: usize, words: &[u16], literals: &[u8]) -> usize
-    requires { sizeOk words.now (length literals.now) ≡ true }
+    requires { size_ok words.now (length literals.now) ≡ true }
     ensures { Wrote text.old at (listing words.now literals.now) result text.new }
 {
     let rules = wide(words[0]);

@@ -8,7 +8,7 @@ use Rattle.grammar.specs.declared.Ending.{Ending}
 use Rattle.grammar.specs.declared.Ending.TheVariants.{Budget, Deep}
 use Rattle.grammar.specs.declared.Value.{Value}
 use Rattle.grammar.specs.Values.{Evaluated, value, ends}
-use Rattle.grammar.specs.Run.{Slots, Tally, counted, Applied, matched, failed, ended, outOfFuel, Due, fine, noBudget, tooDeep, due}
+use Rattle.grammar.specs.Run.{Slots, Tally, counted, Applied, matched, failed, ended, out_of_fuel, Due, fine, no_budget, too_deep, due}
 
 -- ════ States ════
 
@@ -18,17 +18,17 @@ pub data State (Node Frame : Type 0) : Type 0 where
   failing : Slots → Tally → List Frame → State Node Frame  -- it has failed
   halted : Ending → (place : ℕ) → Tally → State Node Frame
 
--- what a leaf's result makes of the machine. (No leaf gives outOfFuel)
+-- what a leaf's result makes of the machine. (No leaf gives out_of_fuel)
 unfoldable pub resume : {Node Frame : Type 0} → Applied → List Frame → State Node Frame
 resume (matched at slots t) σ = matching at slots t σ
 resume (failed slots t) σ = failing slots t σ
 resume (ended why k t) σ = halted why k t
-resume outOfFuel σ = halted Budget 0 (record { visits = 0 })
+resume out_of_fuel σ = halted Budget 0 (record { visits = 0 })
 
 -- goes on with what the arguments of a call gave
-unfoldable pub withArguments : {Node Frame : Type 0} → Evaluated (List Value) → Tally → (List Value → State Node Frame) → State Node Frame
-withArguments (value given) t go = go given
-withArguments (ends why k) t go = halted why k t
+unfoldable pub with_arguments : {Node Frame : Type 0} → Evaluated (List Value) → Tally → (List Value → State Node Frame) → State Node Frame
+with_arguments (value given) t go = go given
+with_arguments (ends why k) t go = halted why k t
 
 -- ════ Steps ════
 
@@ -36,23 +36,23 @@ withArguments (ends why k) t go = halted why k t
 pub record Moves (Node Frame : Type 0) : Type 0 where
   pub number : Node → ℕ
   pub begin : Node → (at : ℕ) → Slots → Tally → List Frame → State Node Frame
-  pub onMatched : Frame → (at : ℕ) → Slots → Tally → List Frame → State Node Frame
-  pub onFailed : Frame → Slots → Tally → List Frame → State Node Frame
+  pub on_matched : Frame → (at : ℕ) → Slots → Tally → List Frame → State Node Frame
+  pub on_failed : Frame → Slots → Tally → List Frame → State Node Frame
 
 module _ {Node Frame : Type 0} (moves : Moves Node Frame) where
   -- the gate: with no budget left the machine stays as it is
   unfoldable pub admitted : Due → Node → (at : ℕ) → Slots → Tally → List Frame → State Node Frame
   admitted fine p at slots t σ = moves.begin p at slots (counted t) σ
-  admitted noBudget p at slots t σ = entering p at slots t σ
-  admitted tooDeep p at slots t σ = halted Deep (moves.number p) t
+  admitted no_budget p at slots t σ = entering p at slots t σ
+  admitted too_deep p at slots t σ = halted Deep (moves.number p) t
 
   module _ (budget deepest : ℕ) where
     unfoldable pub step : State Node Frame → State Node Frame
     step (entering p at slots t σ) = admitted (due budget deepest (suc (length σ)) t.visits) p at slots t σ
     step (matching at slots t []) = matching at slots t []
-    step (matching at slots t (frame ∷ σ)) = moves.onMatched frame at slots t σ
+    step (matching at slots t (frame ∷ σ)) = moves.on_matched frame at slots t σ
     step (failing slots t []) = failing slots t []
-    step (failing slots t (frame ∷ σ)) = moves.onFailed frame slots t σ
+    step (failing slots t (frame ∷ σ)) = moves.on_failed frame slots t σ
     step (halted why k t) = halted why k t
 
     unfoldable pub steps : ℕ → State Node Frame → State Node Frame
@@ -69,18 +69,18 @@ module _ {Node Frame Node' Frame' : Type 0} (f : Node → Node') (g : Frame → 
   meant (failing slots t σ) = failing slots t (map g σ)
   meant (halted why k t) = halted why k t
 
-  pub meant-resume : (r : Applied) (σ : List Frame) → meant (resume r σ) ≡ resume r (map g σ)
+  pub meant_resume : (r : Applied) (σ : List Frame) → meant (resume r σ) ≡ resume r (map g σ)
   unfolding meant resume
-  meant-resume (matched at slots t) σ = refl
-  meant-resume (failed slots t) σ = refl
-  meant-resume (ended why k t) σ = refl
-  meant-resume outOfFuel σ = refl
+  meant_resume (matched at slots t) σ = refl
+  meant_resume (failed slots t) σ = refl
+  meant_resume (ended why k t) σ = refl
+  meant_resume out_of_fuel σ = refl
 
-  pub meant-arguments : (e : Evaluated (List Value)) (t : Tally) (go : List Value → State Node Frame) (go' : List Value → State Node' Frame') →
-      ((vs : List Value) → meant (go vs) ≡ go' vs) → meant (withArguments e t go) ≡ withArguments e t go'
-  unfolding meant withArguments
-  meant-arguments (value vs) t go go' h = h vs
-  meant-arguments (ends why k) t go go' h = refl
+  pub meant_arguments : (e : Evaluated (List Value)) (t : Tally) (go : List Value → State Node Frame) (go' : List Value → State Node' Frame') →
+      ((vs : List Value) → meant (go vs) ≡ go' vs) → meant (with_arguments e t go) ≡ with_arguments e t go'
+  unfolding meant with_arguments
+  meant_arguments (value vs) t go go' h = h vs
+  meant_arguments (ends why k) t go go' h = refl
 
   -- each move of the one is that of the other
   pub record Follows (moves : Moves Node Frame) (moves' : Moves Node' Frame') : Type 0 where
@@ -88,29 +88,29 @@ module _ {Node Frame Node' Frame' : Type 0} (f : Node → Node') (g : Frame → 
     pub begins : (p : Node) (at : ℕ) (slots : Slots) (t : Tally) (σ : List Frame) →
         meant (moves.begin p at slots t σ) ≡ moves'.begin (f p) at slots t (map g σ)
     pub matches : (frame : Frame) (at : ℕ) (slots : Slots) (t : Tally) (σ : List Frame) →
-        meant (moves.onMatched frame at slots t σ) ≡ moves'.onMatched (g frame) at slots t (map g σ)
+        meant (moves.on_matched frame at slots t σ) ≡ moves'.on_matched (g frame) at slots t (map g σ)
     pub fails : (frame : Frame) (slots : Slots) (t : Tally) (σ : List Frame) →
-        meant (moves.onFailed frame slots t σ) ≡ moves'.onFailed (g frame) slots t (map g σ)
+        meant (moves.on_failed frame slots t σ) ≡ moves'.on_failed (g frame) slots t (map g σ)
 
   module _ (moves : Moves Node Frame) (moves' : Moves Node' Frame') (follows : Follows moves moves') (budget deepest : ℕ) where
-    admitted-meant : (d : Due) (p : Node) (at : ℕ) (slots : Slots) (t : Tally) (σ : List Frame) →
+    admitted_meant : (d : Due) (p : Node) (at : ℕ) (slots : Slots) (t : Tally) (σ : List Frame) →
         meant (admitted moves d p at slots t σ) ≡ admitted moves' d (f p) at slots t (map g σ)
     unfolding admitted meant
-    admitted-meant fine p at slots t σ = follows.begins p at slots (counted t) σ
-    admitted-meant noBudget p at slots t σ = refl
-    admitted-meant tooDeep p at slots t σ = rw (follows.named p)
+    admitted_meant fine p at slots t σ = follows.begins p at slots (counted t) σ
+    admitted_meant no_budget p at slots t σ = refl
+    admitted_meant too_deep p at slots t σ = rw (follows.named p)
 
     -- step for step
-    step-meant : (x : State Node Frame) → meant (step moves budget deepest x) ≡ step moves' budget deepest (meant x)
+    step_meant : (x : State Node Frame) → meant (step moves budget deepest x) ≡ step moves' budget deepest (meant x)
     unfolding step meant
-    step-meant (entering p at slots t σ) = rw (length-map σ g) (admitted-meant (due budget deepest (suc (length σ)) t.visits) p at slots t σ)
-    step-meant (matching at slots t []) = refl
-    step-meant (matching at slots t (frame ∷ σ)) = follows.matches frame at slots t σ
-    step-meant (failing slots t []) = refl
-    step-meant (failing slots t (frame ∷ σ)) = follows.fails frame slots t σ
-    step-meant (halted why k t) = refl
+    step_meant (entering p at slots t σ) = rw (length-map σ g) (admitted_meant (due budget deepest (suc (length σ)) t.visits) p at slots t σ)
+    step_meant (matching at slots t []) = refl
+    step_meant (matching at slots t (frame ∷ σ)) = follows.matches frame at slots t σ
+    step_meant (failing slots t []) = refl
+    step_meant (failing slots t (frame ∷ σ)) = follows.fails frame slots t σ
+    step_meant (halted why k t) = refl
 
-    pub steps-meant : (n : ℕ) (x : State Node Frame) → meant (steps moves budget deepest n x) ≡ steps moves' budget deepest n (meant x)
+    pub steps_meant : (n : ℕ) (x : State Node Frame) → meant (steps moves budget deepest n x) ≡ steps moves' budget deepest n (meant x)
     unfolding steps
-    steps-meant zero x = refl
-    steps-meant (suc n) x = steps-meant n (step moves budget deepest x) ∙ ap (steps moves' budget deepest n) (step-meant x)
+    steps_meant zero x = refl
+    steps_meant (suc n) x = steps_meant n (step moves budget deepest x) ∙ ap (steps moves' budget deepest n) (step_meant x)

@@ -4,10 +4,10 @@ use mathlib.Core.Bool.{cond}
 use Prim.Native.Nat.{ℕ, ◌+◌, ◌-◌, ◌*◌}
 use lib.ListN.{set, length}
 use Rattle.grammar.specs.declared.Ending.TheVariants.{Budget}
-use Rattle.grammar.specs.Tree.{Parsing, empty, terminal, sequence, choice, repeat, unless, call, bind, update, constraint, node, ruleOf}
+use Rattle.grammar.specs.Tree.{Parsing, empty, terminal, sequence, choice, repeat, unless, call, bind, update, constraint, node, rule_of}
 use Rattle.grammar.specs.Run.{Slots, Setting, Tally, Applied, matched, failed, ended}
-use Rattle.grammar.specs.Run.{eval, evalAll, withValue, judged, fresh, messagePart, byteStands, returning}
-use Rattle.machine.proofs.StackMachine.{State, entering, matching, failing, halted, resume, withArguments, Moves, steps}
+use Rattle.grammar.specs.Run.{eval, eval_all, with_value, judged, fresh, message_part, byte_stands, returning}
+use Rattle.machine.proofs.StackMachine.{State, entering, matching, failing, halted, resume, with_arguments, Moves, steps}
 
 -- what a composite node at work keeps: what is to be done next, and the slots (and place) it began with
 pub data Frame : Type 0 where
@@ -29,39 +29,39 @@ module _ (S : Setting) where
   -- a visit, once it is counted
   unfoldable pub begin : Parsing → (at : ℕ) → Slots → Tally → Stack → TreeState
   begin (empty k) at slots t σ = matching at slots t σ
-  begin (terminal k byte) at slots t σ = resume (cond (byteStands S.message at byte) (matched (at + 1) slots t) (failed slots t)) σ
+  begin (terminal k byte) at slots t σ = resume (cond (byte_stands S.message at byte) (matched (at + 1) slots t) (failed slots t)) σ
   begin (sequence k p q) at slots t σ = entering p at slots t (first q slots ∷ σ)
   begin (choice k p q) at slots t σ = entering p at slots t (arm q at slots ∷ σ)
   begin (repeat k p) at slots t σ = entering p at slots t (round p at slots ∷ σ)
   begin (unless k p) at slots t σ = entering p at slots t (opposing at ∷ σ)
   begin (call k r arguments receiving) at slots t σ =
-      withArguments (evalAll S slots arguments) t (λ given. entering (ruleOf S.grammar r).body at (fresh given) t (calling r receiving slots ∷ σ))
+      with_arguments (eval_all S slots arguments) t (λ given. entering (rule_of S.grammar r).body at (fresh given) t (calling r receiving slots ∷ σ))
   begin (bind k s p) at slots t σ = entering p at slots t (binding s at slots ∷ σ)
-  begin (update k s e) at slots t σ = resume (withValue (eval S slots e) t (λ v. matched at (set slots s v) t)) σ
-  begin (constraint k e) at slots t σ = resume (withValue (eval S slots e) t (λ v. judged k v at slots t)) σ
+  begin (update k s e) at slots t σ = resume (with_value (eval S slots e) t (λ v. matched at (set slots s v) t)) σ
+  begin (constraint k e) at slots t σ = resume (with_value (eval S slots e) t (λ v. judged k v at slots t)) σ
 
   -- what the topmost frame does when its part has matched
-  unfoldable pub onMatched : Frame → (at : ℕ) → Slots → Tally → Stack → TreeState
-  onMatched (first q kept) at slots t σ = entering q at slots t (last kept ∷ σ)
-  onMatched (last kept) at slots t σ = matching at slots t σ
-  onMatched (arm q from kept) at slots t σ = matching at slots t σ
-  onMatched (round p from kept) at slots t σ = entering p at slots t (round p at slots ∷ σ)
-  onMatched (opposing from) at slots t σ = failing slots t σ
-  onMatched (binding s from kept) at slots t σ = matching at (set slots s (messagePart from at)) t σ
-  onMatched (calling r receiving kept) at slots t σ = resume (returning S r kept receiving at slots t) σ
+  unfoldable pub on_matched : Frame → (at : ℕ) → Slots → Tally → Stack → TreeState
+  on_matched (first q kept) at slots t σ = entering q at slots t (last kept ∷ σ)
+  on_matched (last kept) at slots t σ = matching at slots t σ
+  on_matched (arm q from kept) at slots t σ = matching at slots t σ
+  on_matched (round p from kept) at slots t σ = entering p at slots t (round p at slots ∷ σ)
+  on_matched (opposing from) at slots t σ = failing slots t σ
+  on_matched (binding s from kept) at slots t σ = matching at (set slots s (message_part from at)) t σ
+  on_matched (calling r receiving kept) at slots t σ = resume (returning S r kept receiving at slots t) σ
 
   -- and when it has failed
-  unfoldable pub onFailed : Frame → Slots → Tally → Stack → TreeState
-  onFailed (first q kept) slots t σ = failing kept t σ
-  onFailed (last kept) slots t σ = failing kept t σ
-  onFailed (arm q from kept) slots t σ = entering q from kept t (last kept ∷ σ)
-  onFailed (round p from kept) slots t σ = matching from kept t σ
-  onFailed (opposing from) slots t σ = matching from slots t σ
-  onFailed (binding s from kept) slots t σ = failing kept t σ
-  onFailed (calling r receiving kept) slots t σ = failing kept t σ
+  unfoldable pub on_failed : Frame → Slots → Tally → Stack → TreeState
+  on_failed (first q kept) slots t σ = failing kept t σ
+  on_failed (last kept) slots t σ = failing kept t σ
+  on_failed (arm q from kept) slots t σ = entering q from kept t (last kept ∷ σ)
+  on_failed (round p from kept) slots t σ = matching from kept t σ
+  on_failed (opposing from) slots t σ = matching from slots t σ
+  on_failed (binding s from kept) slots t σ = failing kept t σ
+  on_failed (calling r receiving kept) slots t σ = failing kept t σ
 
-abbrev pub treeMoves : Setting → Moves Parsing Frame
-treeMoves S = record { number = node; begin = begin S; onMatched = onMatched S; onFailed = onFailed S }
+abbrev pub tree_moves : Setting → Moves Parsing Frame
+tree_moves S = record { number = node; begin = begin S; on_matched = on_matched S; on_failed = on_failed S }
 
 -- falls at each step of a machine that is not at rest
 unfoldable pub measure : (budget : ℕ) → TreeState → ℕ
@@ -72,7 +72,7 @@ measure budget (halted why k t) = 0
 
 -- the machine at rest
 unfoldable pub final : Setting → (budget deepest : ℕ) → TreeState → TreeState
-final S budget deepest x = steps (treeMoves S) budget deepest (measure budget x) x
+final S budget deepest x = steps (tree_moves S) budget deepest (measure budget x) x
 
 -- the result that a machine at rest has come to
 unfoldable pub read : TreeState → Applied

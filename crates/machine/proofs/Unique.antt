@@ -6,7 +6,7 @@ use Prim.Native.Nat.{ℕ}
 use Rattle.stages.specs.declared.Run.{Run}
 use Rattle.stages.specs.Stages.{Stepped, with}
 
-pub with-unique : {both : Stepped} {r₁ r₂ : Run} {w₁ w₂ : List ℕ} → with r₁ w₁ ≡ both → with r₂ w₂ ≡ both → (r₁ ≡ r₂) × (w₁ ≡ w₂)
-with-unique p q =
+pub with_unique : {both : Stepped} {r₁ r₂ : Run} {w₁ w₂ : List ℕ} → with r₁ w₁ ≡ both → with r₂ w₂ ≡ both → (r₁ ≡ r₂) × (w₁ ≡ w₂)
+with_unique p q =
     let e = p ∙ sym q in
     (ap (λ (z : Stepped). z.run) e, ap (λ (z : Stepped). z.work) e)

@@ -6,162 +6,162 @@ use mathlib.Core.List.{List, ◌∷◌}
 use Prim.Native.Nat.{ℕ, zero, suc, ◌≤◌, ◌<◌}
 use native.Mathlib.Omega.{arith}
 use lib.ListN.{length}
-use Rattle.laws.specs.Windows.{Same, same-trans}
+use Rattle.laws.specs.Windows.{Same, same_trans}
 use Rattle.grammar.specs.declared.Fault.TheVariants.{Overflow, ZeroDivisor}
 use Rattle.grammar.specs.declared.Value.{Value}
 use Rattle.grammar.specs.declared.Node.{Node}
 use Rattle.grammar.specs.declared.Node.TheVariants as N
-use Rattle.grammar.specs.Words.{returnedCount}
+use Rattle.grammar.specs.Words.{returned_count}
 use Rattle.grammar.specs.Tree.{four}
 use Rattle.grammar.specs.Values.{Evaluated}
-use Rattle.grammar.specs.Run.{Tally, matched, withValue, receive, messagePart}
-use Rattle.grammar.specs.Answer.{workWords}
-use Rattle.frames.specs.Frames.{base, slotsIn, nodeIn, phaseIn, fromIn, restored}
+use Rattle.grammar.specs.Run.{Tally, matched, with_value, receive, message_part}
+use Rattle.grammar.specs.Answer.{work_words}
+use Rattle.frames.specs.Frames.{base, slots_in, node_in, phase_in, from_in, restored}
 use Rattle.stages.specs.declared.Stage.TheVariants as St
 use Rattle.stages.specs.declared.Run.{Run}
-use Rattle.calls.specs.Calls.{givenBy, fourOf, returnedBy}
-use Rattle.stages.specs.Stages.{with, moved, endedAt}
-use Rattle.returns.specs.Returns.{returned, sequenceMatched, choiceFailed, givenBack, failedIn, matchedIn}
+use Rattle.calls.specs.Calls.{given_by, four_of, returned_by}
+use Rattle.stages.specs.Stages.{with, moved, ended_at}
+use Rattle.returns.specs.Returns.{returned, sequence_matched, choice_failed, given_back, failed_in, matched_in}
 use Rattle.machine.proofs.StackMachine.{entering, matching, failing, resume}
 use Rattle.machine.proofs.NodeMachine as Node
-use Rattle.machine.proofs.NodeMachine.{NodeState, NodeFrame, nodeFrame}
-use Rattle.machine.proofs.Decoded.{isLater, keptIn, frameIn, framesIn, frame_same, frames-same, saved-same, second-same, restored_same, written_same}
-use Rattle.machine.proofs.Decoded.{saved-slots, saved-frames, second-slots, second-frames, restored-slots, written-slots}
-use Rattle.machine.proofs.CallSlots.{received-same, received-slots}
-use Rattle.machine.proofs.Ranges.{Yields, yields, yields-stuck, yields-fault, Short, AllInRange, ManyInRange}
-use Rattle.machine.proofs.Fitting.{part-ranged, returned-ranged}
-use Rattle.machine.proofs.WordVisits.{tally, stateIn, stateAt, Goes, four-alike, here}
+use Rattle.machine.proofs.NodeMachine.{NodeState, NodeFrame, node_frame}
+use Rattle.machine.proofs.Decoded.{is_later, kept_in, frame_in, frames_in, frame_same, frames_same, saved_same, second_same, restored_same, written_same}
+use Rattle.machine.proofs.Decoded.{saved_slots, saved_frames, second_slots, second_frames, restored_slots, written_slots}
+use Rattle.machine.proofs.CallSlots.{received_same, received_slots}
+use Rattle.machine.proofs.Ranges.{Yields, yields, yields_stuck, yields_fault, Short, AllInRange, ManyInRange}
+use Rattle.machine.proofs.Fitting.{part_ranged, returned_ranged}
+use Rattle.machine.proofs.WordVisits.{tally, state_in, state_at, Goes, four_alike, here}
 
-module _ (area : List ℕ) (room : workWords ≤ length area) (r : Run) (w : List ℕ) (same : Same workWords (length area) area w) where
+module _ (area : List ℕ) (room : work_words ≤ length area) (r : Run) (w : List ℕ) (same : Same work_words (length area) area w) where
   -- frame d is on top
   module _ (d : ℕ) (top : r.frames ≡ suc d) (few : r.frames ≤ 256) where
     abbrev t : Tally
     t = tally r.visits
 
-    frameFits : base (suc d) ≤ length w
-    frameFits = omega (arith, same.long)
+    frame_fits : base (suc d) ≤ length w
+    frame_fits = omega (arith, same.long)
 
     -- it is popped, and nothing written
-    popped : {r' : Run} {x : NodeState} → r'.frames ≡ d → stateAt (with r' w) ≡ x → Goes area (with r' w) x
+    popped : {r' : Run} {x : NodeState} → r'.frames ≡ d → state_at (with r' w) ≡ x → Goes area (with r' w) x
     popped e is = here area room r w same (omega arith) is
 
     -- its slots are in use again
-    restored-frames : framesIn d (restored w d) ≡ framesIn d w
-    restored-frames = frames-same d (restored_same w d (omega arith)) (omega (arith, frameFits))
+    restored_frames : frames_in d (restored w d) ≡ frames_in d w
+    restored_frames = frames_same d (restored_same w d (omega arith)) (omega (arith, frame_fits))
 
-    restored-area : Same workWords (length area) area (restored w d)
-    restored-area = same-trans same (restored_same w d (omega arith))
+    restored_area : Same work_words (length area) area (restored w d)
+    restored_area = same_trans same (restored_same w d (omega arith))
 
-    givenBack-goes : Goes area (givenBack d r w) (failing (keptIn w d) t (framesIn d w))
-    unfolding givenBack stateAt stateIn
-    givenBack-goes = record { is = rw (restored-slots w d frameFits, restored-frames); few = omega arith; same = restored-area }
+    given_back_goes : Goes area (given_back d r w) (failing (kept_in w d) t (frames_in d w))
+    unfolding given_back state_at state_in
+    given_back_goes = record { is = rw (restored_slots w d frame_fits, restored_frames); few = omega arith; same = restored_area }
 
-    repeated-goes : Goes area (with (moved r St.Matched (fromIn w d) d) (restored w d)) (matching (fromIn w d) (keptIn w d) t (framesIn d w))
-    unfolding stateAt stateIn
-    repeated-goes = record { is = rw (restored-slots w d frameFits, restored-frames); few = omega arith; same = restored-area }
+    repeated_goes : Goes area (with (moved r St.Matched (from_in w d) d) (restored w d)) (matching (from_in w d) (kept_in w d) t (frames_in d w))
+    unfolding state_at state_in
+    repeated_goes = record { is = rw (restored_slots w d frame_fits, restored_frames); few = omega arith; same = restored_area }
 
     -- its second part is next
-    sequence-goes : (phase b : ℕ) → Goes area (sequenceMatched phase b d r w)
-        (cond (isLater phase) (matching r.at (slotsIn w) t (framesIn d w))
-        (entering b r.at (slotsIn w) t (nodeFrame (nodeIn w d) true (fromIn w d) (keptIn w d) ∷ framesIn d w)))
-    unfolding sequenceMatched isLater stateAt stateIn
-    sequence-goes zero b = record {
-      is = rw (top, second-slots w d frameFits, second-frames w d frameFits);
+    sequence_goes : (phase b : ℕ) → Goes area (sequence_matched phase b d r w)
+        (cond (is_later phase) (matching r.at (slots_in w) t (frames_in d w))
+        (entering b r.at (slots_in w) t (node_frame (node_in w d) true (from_in w d) (kept_in w d) ∷ frames_in d w)))
+    unfolding sequence_matched is_later state_at state_in
+    sequence_goes zero b = record {
+      is = rw (top, second_slots w d frame_fits, second_frames w d frame_fits);
       few = few;
-      same = same-trans same (second-same w d (omega arith));
+      same = same_trans same (second_same w d (omega arith));
     }
-    sequence-goes (suc _) b = popped refl refl
+    sequence_goes (suc _) b = popped refl refl
 
-    choice-goes : (phase b : ℕ) → Goes area (choiceFailed phase b d r w)
-        (cond (isLater phase) (failing (keptIn w d) t (framesIn d w))
-        (entering b (fromIn w d) (keptIn w d) t (nodeFrame (nodeIn w d) true (fromIn w d) (keptIn w d) ∷ framesIn d w)))
-    unfolding choiceFailed isLater stateAt stateIn givenBack frameIn
-    choice-goes zero b =
-        let fits : base (suc d) ≤ length (restored w d) = omega (arith, restored-area.long) in
+    choice_goes : (phase b : ℕ) → Goes area (choice_failed phase b d r w)
+        (cond (is_later phase) (failing (kept_in w d) t (frames_in d w))
+        (entering b (from_in w d) (kept_in w d) t (node_frame (node_in w d) true (from_in w d) (kept_in w d) ∷ frames_in d w)))
+    unfolding choice_failed is_later state_at state_in given_back frame_in
+    choice_goes zero b =
+        let fits : base (suc d) ≤ length (restored w d) = omega (arith, restored_area.long) in
         record {
-          is = rw (top, second-slots (restored w d) d fits, restored-slots w d frameFits, second-frames (restored w d) d fits, restored-frames)
-              (ap (λ (f : NodeFrame). entering b (fromIn w d) (keptIn w d) t (nodeFrame f.node true f.from f.kept ∷ framesIn d w))
-              (frame_same d (restored_same w d (omega arith)) frameFits));
+          is = rw (top, second_slots (restored w d) d fits, restored_slots w d frame_fits, second_frames (restored w d) d fits, restored_frames)
+              (ap (λ (f : NodeFrame). entering b (from_in w d) (kept_in w d) t (node_frame f.node true f.from f.kept ∷ frames_in d w))
+              (frame_same d (restored_same w d (omega arith)) frame_fits));
           few = few;
-          same = same-trans restored-area (second-same (restored w d) d (omega arith));
+          same = same_trans restored_area (second_same (restored w d) d (omega arith));
         }
-    choice-goes (suc _) b = givenBack-goes
+    choice_goes (suc _) b = given_back_goes
 
     -- its slots take what the rule returned
-    returned-goes : {count : ℕ} {e : Evaluated (List Value)} (m s₀ s₁ s₂ s₃ : ℕ) → length (four m s₀ s₁ s₂ s₃) ≤ count → Yields (ManyInRange count) e →
-        Goes area (returned (givenBy e) m s₀ s₁ s₂ s₃ d r w)
-        (resume (withValue e t (λ vs. matched r.at (receive (keptIn w d) (four m s₀ s₁ s₂ s₃) vs) t)) (framesIn d w))
-    unfolding returned givenBy withValue resume stateAt stateIn endedAt
-    returned-goes m s₀ s₁ s₂ s₃ enough (yields {a = vs} h) =
+    returned_goes : {count : ℕ} {e : Evaluated (List Value)} (m s₀ s₁ s₂ s₃ : ℕ) → length (four m s₀ s₁ s₂ s₃) ≤ count → Yields (ManyInRange count) e →
+        Goes area (returned (given_by e) m s₀ s₁ s₂ s₃ d r w)
+        (resume (with_value e t (λ vs. matched r.at (receive (kept_in w d) (four m s₀ s₁ s₂ s₃) vs) t)) (frames_in d w))
+    unfolding returned given_by with_value resume state_at state_in ended_at
+    returned_goes m s₀ s₁ s₂ s₃ enough (yields {a = vs} h) =
         let w₁ = restored w d in
-        let long : length w₁ ≡ length area = restored-area.long in
+        let long : length w₁ ≡ length area = restored_area.long in
         record {
           is = rw (
-            received-slots m s₀ s₁ s₂ s₃ vs w₁ (omega arith) h.ranged (omega (arith, h.many)),
-            restored-slots w d frameFits,
-            frames-same d (received-same (omega arith) m s₀ s₁ s₂ s₃ (fourOf vs) w₁) (omega arith),
-            restored-frames,
+            received_slots m s₀ s₁ s₂ s₃ vs w₁ (omega arith) h.ranged (omega (arith, h.many)),
+            restored_slots w d frame_fits,
+            frames_same d (received_same (omega arith) m s₀ s₁ s₂ s₃ (four_of vs) w₁) (omega arith),
+            restored_frames,
           );
           few = omega arith;
-          same = same-trans restored-area (received-same (omega arith) m s₀ s₁ s₂ s₃ (fourOf vs) w₁);
+          same = same_trans restored_area (received_same (omega arith) m s₀ s₁ s₂ s₃ (four_of vs) w₁);
         }
-    returned-goes m s₀ s₁ s₂ s₃ enough yields-stuck = here area room r w same few refl
-    returned-goes m s₀ s₁ s₂ s₃ enough (yields-fault {why = Overflow}) = here area room r w same few refl
-    returned-goes m s₀ s₁ s₂ s₃ enough (yields-fault {why = ZeroDivisor}) = here area room r w same few refl
+    returned_goes m s₀ s₁ s₂ s₃ enough yields_stuck = here area room r w same few refl
+    returned_goes m s₀ s₁ s₂ s₃ enough (yields_fault {why = Overflow}) = here area room r w same few refl
+    returned_goes m s₀ s₁ s₂ s₃ enough (yields_fault {why = ZeroDivisor}) = here area room r w same few refl
 
-    pub failedIn-goes : (n : Node) → Goes area (failedIn n d r w) (Node.onFailed n (frameIn w d) (slotsIn w) t (framesIn d w))
-    unfolding failedIn Node.onFailed frameIn stateAt stateIn
-    failedIn-goes N.Unknown = givenBack-goes
-    failedIn-goes N.Empty = givenBack-goes
-    failedIn-goes (N.Terminal byte) = givenBack-goes
-    failedIn-goes (N.Sequence a b) = givenBack-goes
-    failedIn-goes (N.Choice a b) = choice-goes (phaseIn w d) b
-    failedIn-goes (N.Repeat a) = repeated-goes
-    failedIn-goes (N.Not a) = popped refl refl
-    failedIn-goes (N.Call q a b c e s₀ s₁ s₂ s₃) = givenBack-goes
-    failedIn-goes (N.Bind s a) = givenBack-goes
-    failedIn-goes (N.Update s e) = givenBack-goes
-    failedIn-goes (N.Constraint e) = givenBack-goes
-    failedIn-goes (N.Bool b) = givenBack-goes
-    failedIn-goes (N.Integer z) = givenBack-goes
-    failedIn-goes (N.Text start len) = givenBack-goes
-    failedIn-goes (N.Slot s) = givenBack-goes
-    failedIn-goes (N.Binary op a b) = givenBack-goes
-    failedIn-goes (N.Negation a) = givenBack-goes
+    pub failed_in_goes : (n : Node) → Goes area (failed_in n d r w) (Node.on_failed n (frame_in w d) (slots_in w) t (frames_in d w))
+    unfolding failed_in Node.on_failed frame_in state_at state_in
+    failed_in_goes N.Unknown = given_back_goes
+    failed_in_goes N.Empty = given_back_goes
+    failed_in_goes (N.Terminal byte) = given_back_goes
+    failed_in_goes (N.Sequence a b) = given_back_goes
+    failed_in_goes (N.Choice a b) = choice_goes (phase_in w d) b
+    failed_in_goes (N.Repeat a) = repeated_goes
+    failed_in_goes (N.Not a) = popped refl refl
+    failed_in_goes (N.Call q a b c e s₀ s₁ s₂ s₃) = given_back_goes
+    failed_in_goes (N.Bind s a) = given_back_goes
+    failed_in_goes (N.Update s e) = given_back_goes
+    failed_in_goes (N.Constraint e) = given_back_goes
+    failed_in_goes (N.Bool b) = given_back_goes
+    failed_in_goes (N.Integer z) = given_back_goes
+    failed_in_goes (N.Text start len) = given_back_goes
+    failed_in_goes (N.Slot s) = given_back_goes
+    failed_in_goes (N.Binary op a b) = given_back_goes
+    failed_in_goes (N.Negation a) = given_back_goes
 
     module _ (words literals message : List ℕ) (short : Short words) (small : length message < 65536) where
-      pub matchedIn-goes : (n : Node) → r.at ≤ length message → fromIn w d ≤ length message → AllInRange (slotsIn w) →
-          Goes area (matchedIn words literals message n d r w) (Node.onMatched words literals message n (frameIn w d) r.at (slotsIn w) t (framesIn d w))
-      unfolding matchedIn Node.onMatched Node.returnedBy returnedBy frameIn stateAt stateIn
-      matchedIn-goes N.Unknown at from ranged = popped refl refl
-      matchedIn-goes N.Empty at from ranged = popped refl refl
-      matchedIn-goes (N.Terminal byte) at from ranged = popped refl refl
-      matchedIn-goes (N.Sequence a b) at from ranged = sequence-goes (phaseIn w d) b
-      matchedIn-goes (N.Choice a b) at from ranged = popped refl refl
-      matchedIn-goes (N.Repeat a) at from ranged = record {
-        is = rw (top, saved-slots w d frameFits r.at, saved-frames w d frameFits r.at (omega arith));
+      pub matched_in_goes : (n : Node) → r.at ≤ length message → from_in w d ≤ length message → AllInRange (slots_in w) →
+          Goes area (matched_in words literals message n d r w) (Node.on_matched words literals message n (frame_in w d) r.at (slots_in w) t (frames_in d w))
+      unfolding matched_in Node.on_matched Node.returned_by returned_by frame_in state_at state_in
+      matched_in_goes N.Unknown at from ranged = popped refl refl
+      matched_in_goes N.Empty at from ranged = popped refl refl
+      matched_in_goes (N.Terminal byte) at from ranged = popped refl refl
+      matched_in_goes (N.Sequence a b) at from ranged = sequence_goes (phase_in w d) b
+      matched_in_goes (N.Choice a b) at from ranged = popped refl refl
+      matched_in_goes (N.Repeat a) at from ranged = record {
+        is = rw (top, saved_slots w d frame_fits r.at, saved_frames w d frame_fits r.at (omega arith));
         few = few;
-        same = same-trans same (saved-same w d r.at (omega arith));
+        same = same_trans same (saved_same w d r.at (omega arith));
       }
-      matchedIn-goes (N.Not a) at from ranged = popped refl refl
-      matchedIn-goes (N.Call q a b c e s₀ s₁ s₂ s₃) at from ranged =
-          returned-goes (returnedCount words q) s₀ s₁ s₂ s₃ (four-alike (returnedCount words q) s₀ s₁ s₂ s₃ _ _ _ _)
-          (returned-ranged message words literals short small q (slotsIn w) ranged)
-      matchedIn-goes (N.Bind s a) at from ranged =
-          let part = messagePart (fromIn w d) r.at in
+      matched_in_goes (N.Not a) at from ranged = popped refl refl
+      matched_in_goes (N.Call q a b c e s₀ s₁ s₂ s₃) at from ranged =
+          returned_goes (returned_count words q) s₀ s₁ s₂ s₃ (four_alike (returned_count words q) s₀ s₁ s₂ s₃ _ _ _ _)
+          (returned_ranged message words literals short small q (slots_in w) ranged)
+      matched_in_goes (N.Bind s a) at from ranged =
+          let part = message_part (from_in w d) r.at in
           record {
             is = rw (
-              written-slots w (omega (arith, frameFits)) s (part-ranged message small (fromIn w d) r.at from at),
-              frames-same d (written_same w s part (omega arith)) (omega (arith, frameFits)),
+              written_slots w (omega (arith, frame_fits)) s (part_ranged message small (from_in w d) r.at from at),
+              frames_same d (written_same w s part (omega arith)) (omega (arith, frame_fits)),
             );
             few = omega arith;
-            same = same-trans same (written_same w s part (omega arith));
+            same = same_trans same (written_same w s part (omega arith));
           }
-      matchedIn-goes (N.Update s e) at from ranged = popped refl refl
-      matchedIn-goes (N.Constraint e) at from ranged = popped refl refl
-      matchedIn-goes (N.Bool b) at from ranged = popped refl refl
-      matchedIn-goes (N.Integer z) at from ranged = popped refl refl
-      matchedIn-goes (N.Text start len) at from ranged = popped refl refl
-      matchedIn-goes (N.Slot s) at from ranged = popped refl refl
-      matchedIn-goes (N.Binary op a b) at from ranged = popped refl refl
-      matchedIn-goes (N.Negation a) at from ranged = popped refl refl
+      matched_in_goes (N.Update s e) at from ranged = popped refl refl
+      matched_in_goes (N.Constraint e) at from ranged = popped refl refl
+      matched_in_goes (N.Bool b) at from ranged = popped refl refl
+      matched_in_goes (N.Integer z) at from ranged = popped refl refl
+      matched_in_goes (N.Text start len) at from ranged = popped refl refl
+      matched_in_goes (N.Slot s) at from ranged = popped refl refl
+      matched_in_goes (N.Binary op a b) at from ranged = popped refl refl
+      matched_in_goes (N.Negation a) at from ranged = popped refl refl

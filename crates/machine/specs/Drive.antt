@@ -5,15 +5,15 @@ use Rattle.grammar.specs.declared.Ending.{Ending}
 use Rattle.grammar.specs.declared.Ending.TheVariants.{Budget, Deep, Stuck, «Fault» as AtFault}
 use Rattle.grammar.specs.declared.Answer.{Answer}
 use Rattle.grammar.specs.Numbers.{DONE, NOMATCH}
-use Rattle.grammar.specs.Words.{ruleWord}
-use Rattle.grammar.specs.Answer.{answered, endingNumber, workWords}
+use Rattle.grammar.specs.Words.{rule_word}
+use Rattle.grammar.specs.Answer.{answered, ending_number, work_words}
 use Rattle.frames.specs.Frames.{cleared, unset}
 use Rattle.stages.specs.declared.Stage.{Stage}
 use Rattle.stages.specs.declared.Stage.TheVariants as S
 use Rattle.stages.specs.declared.Run.{Run}
 use Rattle.calls.specs.declared.Given.{Given}
 use Rattle.calls.specs.declared.Given.TheVariants.{Are, Ends}
-use Rattle.calls.specs.Calls.{returnedBy}
+use Rattle.calls.specs.Calls.{returned_by}
 use Rattle.stages.specs.Stages.{Stepped, with}
 use Rattle.machine.specs.Step.{steps_of}
 
@@ -31,25 +31,25 @@ unfoldable pub weight : (budget : ℕ) → Run → ℕ
 weight budget r = 4 * (budget - r.visits) + 2 * r.frames + rank r.stage
 
 -- a run goes on where a visit is due and some budget is left, and where there is a frame to return to
-unfoldable pub goesOnIn : Stage → (budget : ℕ) → Run → Bool
-goesOnIn (S.Enter k) budget r = ltb r.visits budget
-goesOnIn S.Matched budget r = ltb 0 r.frames
-goesOnIn S.Failed budget r = ltb 0 r.frames
-goesOnIn (S.Deep k) budget r = false
-goesOnIn (S.Stuck k) budget r = false
-goesOnIn (S.Overflow k) budget r = false
-goesOnIn (S.ZeroDivisor k) budget r = false
+unfoldable pub goes_on_in : Stage → (budget : ℕ) → Run → Bool
+goes_on_in (S.Enter k) budget r = ltb r.visits budget
+goes_on_in S.Matched budget r = ltb 0 r.frames
+goes_on_in S.Failed budget r = ltb 0 r.frames
+goes_on_in (S.Deep k) budget r = false
+goes_on_in (S.Stuck k) budget r = false
+goes_on_in (S.Overflow k) budget r = false
+goes_on_in (S.ZeroDivisor k) budget r = false
 
-abbrev pub goesOn : (budget : ℕ) → Run → Bool
-goesOn budget r = goesOnIn r.stage budget r
+abbrev pub goes_on : (budget : ℕ) → Run → Bool
+goes_on budget r = goes_on_in r.stage budget r
 
 -- 'Consumed and values are zero or absent unless DONE'
-abbrev pub endedAnswer : Ending → ℕ → Run → Answer
-endedAnswer why k r = answered (endingNumber why) k 0 r.visits []
+abbrev pub ended_answer : Ending → ℕ → Run → Answer
+ended_answer why k r = answered (ending_number why) k 0 r.visits []
 
 -- the start rule's 'returned values are the record's'
-unfoldable pub doneAnswer : Given → Run → Answer
-doneAnswer (Are f) r = record {
+unfoldable pub done_answer : Given → Run → Answer
+done_answer (Are f) r = record {
   number = DONE;
   place = 0;
   consumed = r.at;
@@ -59,7 +59,7 @@ doneAnswer (Are f) r = record {
   value2 = f.c;
   value3 = f.d;
 }
-doneAnswer (Ends why j) r = endedAnswer why j r
+done_answer (Ends why j) r = ended_answer why j r
 
 -- the answer record, and the work area
 pub record Ran : Type 0 where
@@ -71,7 +71,7 @@ recorded a w = record { answer = a; work = w }
 
 -- the start rule's body, with nothing counted
 abbrev pub started : List ℕ → Run
-started words = record { stage = S.Enter (ruleWord words 0 0); at = 0; frames = 0; visits = 0 }
+started words = record { stage = S.Enter (rule_word words 0 0); at = 0; frames = 0; visits = 0 }
 
 module _ (words literals message : List ℕ) where
   -- as many steps as the run can make
@@ -79,17 +79,17 @@ module _ (words literals message : List ℕ) where
   driven budget s = steps_of words literals message budget (weight budget s.run) s
 
   -- the answer of a run at rest. Where a visit is due, the budget is spent
-  unfoldable pub concludedIn : Stage → Run → List ℕ → Answer
-  concludedIn (S.Enter k) r w = endedAnswer Budget k r
-  concludedIn S.Matched r w = doneAnswer (returnedBy words literals message 0 w) r
-  concludedIn S.Failed r w = answered NOMATCH 0 0 r.visits []
-  concludedIn (S.Deep k) r w = endedAnswer Deep k r
-  concludedIn (S.Stuck k) r w = endedAnswer Stuck k r
-  concludedIn (S.Overflow k) r w = endedAnswer (AtFault Overflow) k r
-  concludedIn (S.ZeroDivisor k) r w = endedAnswer (AtFault ZeroDivisor) k r
+  unfoldable pub concluded_in : Stage → Run → List ℕ → Answer
+  concluded_in (S.Enter k) r w = ended_answer Budget k r
+  concluded_in S.Matched r w = done_answer (returned_by words literals message 0 w) r
+  concluded_in S.Failed r w = answered NOMATCH 0 0 r.visits []
+  concluded_in (S.Deep k) r w = ended_answer Deep k r
+  concluded_in (S.Stuck k) r w = ended_answer Stuck k r
+  concluded_in (S.Overflow k) r w = ended_answer (AtFault Overflow) k r
+  concluded_in (S.ZeroDivisor k) r w = ended_answer (AtFault ZeroDivisor) k r
 
   unfoldable pub concluded : Stepped → Answer
-  concluded s = concludedIn s.run.stage s.run s.work
+  concluded s = concluded_in s.run.stage s.run s.work
 
   -- 'The start rule runs in the same way with all slots unset'
   unfoldable pub rested : (budget : ℕ) → List ℕ → Stepped
@@ -97,4 +97,4 @@ module _ (words literals message : List ℕ) where
 
   -- a run 'leaves the first W words zero'
   unfoldable pub ran : (budget : ℕ) → List ℕ → Ran
-  ran budget w = recorded (concluded (rested budget w)) (cleared (rested budget w).work workWords)
+  ran budget w = recorded (concluded (rested budget w)) (cleared (rested budget w).work work_words)

@@ -2,7 +2,7 @@
 ghost use Rattle.std.specs.Prelude.{◌≡◌, true};
 ghost use Rattle.stages.specs.Stages.{with};
 ghost use Rattle.machine.specs.Step.{step_of};
-ghost use Rattle.machine.specs.Drive.{goesOn, driven};
+ghost use Rattle.machine.specs.Drive.{goes_on, driven};
 ghost use Rattle.machine.specs.Strides.{Strode};
 
 use crate::strides::{both_visits, terminal_first, two_left};
@@ -32,7 +32,7 @@ pub fn step<'a>(
 
 // A run goes on where a visit is due and some budget is left, and where there is a frame to return to.
 fn goes_on(budget: u32, run: Run) -> bool
-    ensures { result ≡ goesOn budget run }
+    ensures { result ≡ goes_on budget run }
 {
     let stage = run.stage;
     match stage {
@@ -52,7 +52,7 @@ fn stride<'a>(
     run: Run,
     work: &mut [u32],
 ) -> Run
-    requires { goesOn budget run ≡ true }
+    requires { goes_on budget run ≡ true }
     ensures { Strode words.now literals.now message.now budget (with run work.old) (with result work.new) }
 {
     let stage = run.stage;

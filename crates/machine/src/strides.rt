@@ -1,7 +1,7 @@
 // Several steps at once, where they come to the same: of the sequences and choices of a message grammar nearly half begin with a terminal.
 ghost use Rattle.std.specs.Prelude.{◌≡◌, ◌<◌};
 ghost use Rattle.stages.specs.Stages.{with};
-ghost use Rattle.machine.specs.Strides.{terminalFirst, twoLeft, bothVisited};
+ghost use Rattle.machine.specs.Strides.{terminal_first, two_left, both_visited};
 
 use stages::{Run, Stage};
 use table::records::{field_in, kind_in, node_place};
@@ -9,7 +9,7 @@ use visits::byte_stands;
 
 // Is node k a sequence or a choice whose first part is a terminal? Past the table's end a kind reads 0, and the answer is no.
 pub(crate) fn terminal_first(words: &[u16], k: u16) -> bool
-    ensures { result ≡ terminalFirst words.now k }
+    ensures { result ≡ terminal_first words.now k }
 {
     let place = node_place(words, k);
     // 3 sequence, 4 choice, 2 terminal
@@ -25,7 +25,7 @@ pub(crate) fn terminal_first(words: &[u16], k: u16) -> bool
 
 // Are two more visits left, one inside the other, in a work area that has all its frames?
 pub(crate) fn two_left(budget: u32, room: usize, run: Run) -> bool
-    ensures { result ≡ twoLeft budget room run }
+    ensures { result ≡ two_left budget room run }
 {
     if room < 9760 {
         return false;
@@ -44,7 +44,7 @@ pub(crate) fn two_left(budget: u32, room: usize, run: Run) -> bool
 // `terminal_first` comes first.)
 pub(crate) fn both_visits(words: &[u16], message: &[u8], k: u16, run: Run, work: &mut [u32]) -> Run
     requires { (run.frames < 255) × (run.visits < 4294967294) }
-    ensures { with result work.new ≡ bothVisited words.now message.now k run work.old }
+    ensures { with result work.new ≡ both_visited words.now message.now k run work.old }
 {
     let d = run.frames;
     let at = run.at;

@@ -1,11 +1,11 @@
 // A return to the node of the top frame, whose part has matched or failed. Frame d is the top one.
 ghost use Rattle.std.specs.Prelude.{◌≡◌};
-ghost use Rattle.grammar.specs.Words.{nodeAt};
-ghost use Rattle.grammar.specs.Run.{messagePart};
-ghost use Rattle.frames.specs.Frames.{phaseIn, fromIn, saved, restored, written};
+ghost use Rattle.grammar.specs.Words.{node_at};
+ghost use Rattle.grammar.specs.Run.{message_part};
+ghost use Rattle.frames.specs.Frames.{phase_in, from_in, saved, restored, written};
 ghost use Rattle.stages.specs.declared.Stage.TheVariants as S;
 ghost use Rattle.stages.specs.Stages.{with, moved, staged};
-ghost use Rattle.returns.specs.Returns.{sequenceMatched, choiceFailed, givenBack, returned, returnedAt, matchedIn, failedIn, backMatched, backFailed};
+ghost use Rattle.returns.specs.Returns.{sequence_matched, choice_failed, given_back, returned, returned_at, matched_in, failed_in, back_matched, back_failed};
 
 use calls::{Given, receive, returned_by};
 use grammar::{Span, Value};
@@ -14,7 +14,7 @@ use table::records::{field_in, kind_in, node_place, returned_count};
 
 // A sequence's part matched: on to its second part, or done.
 fn sequence_matched(b: u16, d: u16, run: Run, work: &mut [u32]) -> Run
-    ensures { with result work.new ≡ sequenceMatched (phaseIn work.old d) b d run work.old }
+    ensures { with result work.new ≡ sequence_matched (phase_in work.old d) b d run work.old }
 {
     if frames::phase_in(work, d) == 0 {
         frames::second(work, d);
@@ -33,7 +33,7 @@ fn next_round(a: u16, d: u16, run: Run, work: &mut [u32]) -> Run
 
 // A repeat's part failed: it "then stands as after the last full round".
 fn repeat_failed(d: u16, run: Run, work: &mut [u32]) -> Run
-    ensures { with result work.new ≡ with (moved run S.Matched (fromIn work.old d) d) (restored work.old d) }
+    ensures { with result work.new ≡ with (moved run S.Matched (from_in work.old d) d) (restored work.old d) }
 {
     let from = frames::from_in(work, d);
     frames::restore(work, d);
@@ -42,7 +42,7 @@ fn repeat_failed(d: u16, run: Run, work: &mut [u32]) -> Run
 
 // "both arms start from the place and slots the choice began with."
 fn choice_failed(b: u16, d: u16, run: Run, work: &mut [u32]) -> Run
-    ensures { with result work.new ≡ choiceFailed (phaseIn work.old d) b d run work.old }
+    ensures { with result work.new ≡ choice_failed (phase_in work.old d) b d run work.old }
 {
     let phase = frames::phase_in(work, d);
     let from = frames::from_in(work, d);
@@ -56,7 +56,7 @@ fn choice_failed(b: u16, d: u16, run: Run, work: &mut [u32]) -> Run
 
 // "A failing node gives back the slots it began with."
 fn give_back(d: u16, run: Run, work: &mut [u32]) -> Run
-    ensures { with result work.new ≡ givenBack d run work.old }
+    ensures { with result work.new ≡ given_back d run work.old }
 {
     frames::restore(work, d);
     move_to(run, Stage::Failed, run.at, d)
@@ -64,7 +64,7 @@ fn give_back(d: u16, run: Run, work: &mut [u32]) -> Run
 
 // The part of the message from one position to another, as a value.
 fn message_part(from: u16, to: u16) -> Value
-    ensures { result ≡ messagePart from to }
+    ensures { result ≡ message_part from to }
 {
     if to < from {
         return Value::Text(Span {
@@ -82,7 +82,7 @@ fn message_part(from: u16, to: u16) -> Value
 
 // "Bind consumes what its part consumes."
 fn bind_matched(s: u16, d: u16, run: Run, work: &mut [u32]) -> Run
-    ensures { with result work.new ≡ with (moved run S.Matched run.at d) (written work.old s (messagePart (fromIn work.old d) run.at)) }
+    ensures { with result work.new ≡ with (moved run S.Matched run.at d) (written work.old s (message_part (from_in work.old d) run.at)) }
 {
     let from = frames::from_in(work, d);
     frames::write_slot(work, s, message_part(from, run.at));
@@ -123,7 +123,7 @@ fn return_call<'a>(
     run: Run,
     work: &mut [u32],
 ) -> Run
-    ensures { with result work.new ≡ returnedAt words.now literals.now message.now place d run work.old }
+    ensures { with result work.new ≡ returned_at words.now literals.now message.now place d run work.old }
 {
     let q = field_in(words, place, 1);
     let given = returned_by(words, literals, message, work, q);
@@ -151,7 +151,7 @@ fn matched_in<'a>(
     run: Run,
     work: &mut [u32],
 ) -> Run
-    ensures { with result work.new ≡ matchedIn words.now literals.now message.now (nodeAt words.now k) d run work.old }
+    ensures { with result work.new ≡ matched_in words.now literals.now message.now (node_at words.now k) d run work.old }
 {
     let place = node_place(words, k);
     // 3 sequence, 5 repeat, 6 not, 7 call, 8 bind
@@ -168,7 +168,7 @@ fn matched_in<'a>(
 
 // The same where the part has failed. Every other node gives back the slots and fails: sequence, call, bind, and a node without parts, which has no frame.
 fn failed_in(words: &[u16], k: u16, d: u16, run: Run, work: &mut [u32]) -> Run
-    ensures { with result work.new ≡ failedIn (nodeAt words.now k) d run work.old }
+    ensures { with result work.new ≡ failed_in (node_at words.now k) d run work.old }
 {
     let place = node_place(words, k);
     // 4 choice, 5 repeat, 6 not
@@ -189,7 +189,7 @@ pub fn back_matched<'a>(
     run: Run,
     work: &mut [u32],
 ) -> Run
-    ensures { with result work.new ≡ backMatched words.now literals.now message.now run.frames run work.old }
+    ensures { with result work.new ≡ back_matched words.now literals.now message.now run.frames run work.old }
 {
     if run.frames == 0 {
         return run;
@@ -206,7 +206,7 @@ pub fn back_failed<'a>(
     run: Run,
     work: &mut [u32],
 ) -> Run
-    ensures { with result work.new ≡ backFailed words.now literals.now message.now run.frames run work.old }
+    ensures { with result work.new ≡ back_failed words.now literals.now message.now run.frames run work.old }
 {
     if run.frames == 0 {
         return run;

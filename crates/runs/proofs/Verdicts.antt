@@ -7,10 +7,10 @@ use types.Run.{OneOf, miss}
 use Rattle.grammar.specs.declared.Verdict.{Verdict}
 use Rattle.grammar.specs.declared.Verdict.TheVariants.{Passed, Size, Field, Use, Start, Untyped, Long, Work}
 use Rattle.grammar.specs.contracts.Verdict.{the_type}
-use Rattle.grammar.specs.Form.{followedBy}
+use Rattle.grammar.specs.Form.{followed_by}
 use Rattle.grammar.specs.Answer.{place, refusal}
 use Rattle.machine.specs.Drive.{Ran, recorded}
-use Rattle.runs.specs.Runs.{afterChecks}
+use Rattle.runs.specs.Runs.{after_checks}
 
 -- those without a place of their own
 abbrev pub placeless : List ℕ
@@ -31,23 +31,23 @@ place_other Work h = refl
 abbrev pub refusals : List ℕ
 refusals = 1 ∷ 2 ∷ 3 ∷ 4 ∷ 5 ∷ 6 ∷ 7 ∷ []
 
-pub then-other : (v later : Verdict) → OneOf refusals (tag_of the_type v) → followedBy v later ≡ v
-then-other Passed later h = absurd (miss refusals 0 tt h)
-then-other Size later h = refl
-then-other (Field i) later h = refl
-then-other (Use k) later h = refl
-then-other Start later h = refl
-then-other (Untyped r) later h = refl
-then-other Long later h = refl
-then-other Work later h = refl
+pub then_other : (v later : Verdict) → OneOf refusals (tag_of the_type v) → followed_by v later ≡ v
+then_other Passed later h = absurd (miss refusals 0 tt h)
+then_other Size later h = refl
+then_other (Field i) later h = refl
+then_other (Use k) later h = refl
+then_other Start later h = refl
+then_other (Untyped r) later h = refl
+then_other Long later h = refl
+then_other Work later h = refl
 
-pub refused-other : (v : Verdict) (ran : Ran) (work : List ℕ) → OneOf refusals (tag_of the_type v) → afterChecks v ran work ≡ recorded (refusal v) work
-unfolding afterChecks
-refused-other Passed ran work h = absurd (miss refusals 0 tt h)
-refused-other Size ran work h = refl
-refused-other (Field i) ran work h = refl
-refused-other (Use k) ran work h = refl
-refused-other Start ran work h = refl
-refused-other (Untyped r) ran work h = refl
-refused-other Long ran work h = refl
-refused-other Work ran work h = refl
+pub refused_other : (v : Verdict) (ran : Ran) (work : List ℕ) → OneOf refusals (tag_of the_type v) → after_checks v ran work ≡ recorded (refusal v) work
+unfolding after_checks
+refused_other Passed ran work h = absurd (miss refusals 0 tt h)
+refused_other Size ran work h = refl
+refused_other (Field i) ran work h = refl
+refused_other (Use k) ran work h = refl
+refused_other Start ran work h = refl
+refused_other (Untyped r) ran work h = refl
+refused_other Long ran work h = refl
+refused_other Work ran work h = refl

@@ -1,8 +1,8 @@
 // The answer record.
 ghost use Rattle.std.specs.Prelude.{◌≡◌, []};
-ghost use Rattle.grammar.specs.Answer.{answered, endingNumber, number, place, refusal};
+ghost use Rattle.grammar.specs.Answer.{answered, ending_number, number, place, refusal};
 ghost use Rattle.stages.specs.Stages.{with};
-ghost use Rattle.machine.specs.Drive.{endedAnswer, doneAnswer, concluded};
+ghost use Rattle.machine.specs.Drive.{ended_answer, done_answer, concluded};
 
 use calls::Given;
 use grammar::{Answer, Ending, Value, Verdict};
@@ -25,7 +25,7 @@ pub(crate) fn without_values(number: u32, place: u32, visits: u32) -> Answer
 }
 
 fn ending_number(why: Ending) -> u32
-    ensures { result ≡ endingNumber why }
+    ensures { result ≡ ending_number why }
 {
     match why {
         Ending::Budget => 9,
@@ -37,14 +37,14 @@ fn ending_number(why: Ending) -> u32
 
 // The run has ended at node k.
 fn ended(why: Ending, k: u16, run: Run) -> Answer
-    ensures { result ≡ endedAnswer why k run }
+    ensures { result ≡ ended_answer why k run }
 {
     without_values(ending_number(why), k as u32, run.visits)
 }
 
 // The start rule's "returned values are the record's".
 fn done(given: Given, run: Run) -> Answer
-    ensures { result ≡ doneAnswer given run }
+    ensures { result ≡ done_answer given run }
 {
     match given {
         Given::Are(four) => {

@@ -5,7 +5,7 @@ mod whole;
 
 ghost use Rattle.std.specs.Prelude.{◌≡◌, length};
 ghost use Rattle.grammar.specs.declared.Mode.TheVariants.{Bench, Display};
-ghost use Rattle.grammar.specs.Answer.{answer, workAfter};
+ghost use Rattle.grammar.specs.Answer.{answer, work_after};
 
 use grammar::Answer;
 
@@ -19,7 +19,7 @@ pub fn bench<'a>(
     work: &mut [u32],
 ) -> Answer
     ensures gives { result ≡ answer Bench words.now literals.now message.now budget (length work.old) }
-    ensures leaves { work.new ≡ workAfter Bench words.now literals.now message.now work.old }
+    ensures leaves { work.new ≡ work_after Bench words.now literals.now message.now work.old }
 {
     let table = form::check(words, literals);
     let verdict = limits::followed_by(table, limits::limits(message.len(), work.len()));
@@ -35,7 +35,7 @@ pub fn display<'a>(
     work: &mut [u32],
 ) -> Answer
     ensures gives { result ≡ answer Display words.now literals.now message.now budget (length work.old) }
-    ensures leaves { work.new ≡ workAfter Display words.now literals.now message.now work.old }
+    ensures leaves { work.new ≡ work_after Display words.now literals.now message.now work.old }
 {
     let table = typing::type_check(words, literals);
     let verdict = limits::followed_by(table, limits::limits(message.len(), work.len()));

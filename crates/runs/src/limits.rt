@@ -1,14 +1,14 @@
 // The checks after those of the table.
 ghost use Rattle.std.specs.Prelude.{◌≡◌, leb};
 ghost use Rattle.grammar.specs.declared.Verdict.TheVariants.{Long, Work};
-ghost use Rattle.grammar.specs.Form.{followedBy, unlessOk};
-ghost use Rattle.grammar.specs.Answer.{workWords};
+ghost use Rattle.grammar.specs.Form.{followed_by, unless_ok};
+ghost use Rattle.grammar.specs.Answer.{work_words};
 
 use grammar::Verdict;
 
 // "message over 65,535 bytes", then "work area under W words".
 pub(crate) fn limits(message: usize, work: usize) -> Verdict
-    ensures { result ≡ followedBy (unlessOk (leb message 65535) Long) (unlessOk (leb workWords work) Work) }
+    ensures { result ≡ followed_by (unless_ok (leb message 65535) Long) (unless_ok (leb work_words work) Work) }
 {
     if 65535 < message {
         return Verdict::Long;
@@ -21,7 +21,7 @@ pub(crate) fn limits(message: usize, work: usize) -> Verdict
 
 // One check comes after another.
 pub(crate) fn followed_by(first: Verdict, later: Verdict) -> Verdict
-    ensures { result ≡ followedBy first later }
+    ensures { result ≡ followed_by first later }
 {
     match first {
         Verdict::Passed => later,

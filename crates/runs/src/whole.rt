@@ -1,7 +1,7 @@
 // A whole run.
 ghost use Rattle.std.specs.Prelude.{◌≡◌};
 ghost use Rattle.machine.specs.Drive.{recorded, ran};
-ghost use Rattle.runs.specs.Runs.{afterChecks};
+ghost use Rattle.runs.specs.Runs.{after_checks};
 
 use crate::answers::{conclude, refuse};
 use grammar::{Answer, Verdict};
@@ -40,7 +40,7 @@ pub(crate) fn finish<'a>(
     budget: u32,
     work: &mut [u32],
 ) -> Answer
-    ensures { recorded result work.new ≡ afterChecks verdict (ran words.now literals.now message.now budget work.old) work.old }
+    ensures { recorded result work.new ≡ after_checks verdict (ran words.now literals.now message.now budget work.old) work.old }
 {
     match verdict {
         Verdict::Passed => run_table(words, literals, message, budget, work),

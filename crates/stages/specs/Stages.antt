@@ -25,9 +25,9 @@ staged r stage = moved r stage r.at r.frames
 
 -- 'STUCK, FAULT, BUDGET, DEEP end the run at once'. (An expression never ends a run by the budget or the
 -- depth, so the first two lines are never met.)
-unfoldable pub endedAt : Ending → ℕ → Stage
-endedAt Budget k = S.Stuck k
-endedAt Deep k = S.Deep k
-endedAt Stuck k = S.Stuck k
-endedAt (AtFault Overflow) k = S.Overflow k
-endedAt (AtFault ZeroDivisor) k = S.ZeroDivisor k
+unfoldable pub ended_at : Ending → ℕ → Stage
+ended_at Budget k = S.Stuck k
+ended_at Deep k = S.Deep k
+ended_at Stuck k = S.Stuck k
+ended_at (AtFault Overflow) k = S.Overflow k
+ended_at (AtFault ZeroDivisor) k = S.ZeroDivisor k

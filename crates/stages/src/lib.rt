@@ -1,6 +1,6 @@
 // A run record by value, and the changes of it that visits and returns share.
 ghost use Rattle.std.specs.Prelude.{◌≡◌};
-ghost use Rattle.stages.specs.Stages.{moved, staged, endedAt};
+ghost use Rattle.stages.specs.Stages.{moved, staged, ended_at};
 
 use grammar::{Ending, Fault};
 
@@ -47,7 +47,7 @@ pub fn stay(run: Run, stage: Stage) -> Run
 
 // "STUCK, FAULT, BUDGET, DEEP end the run at once": the stage at which an expression has ended it.
 pub fn ended_at(why: Ending, k: u16) -> Stage
-    ensures { result ≡ endedAt why k }
+    ensures { result ≡ ended_at why k }
 {
     match why {
         Ending::Budget => Stage::Stuck(k),

@@ -13,18 +13,18 @@ use denote.Enum.Declared.{tag_of}
 use mir.Val.{has_key}
 use types.Run.{OneOf, hit}
 use borrow.Author.Tests.{ltb-true, ltb-false}
-use Rattle.laws.specs.Counting.{smallestFailing}
-use Rattle.laws.specs.Smallest.{smallest-all}
+use Rattle.laws.specs.Counting.{smallest_failing}
+use Rattle.laws.specs.Smallest.{smallest_all}
 use Rattle.laws.specs.Tests.{never}
 use Rattle.laws.specs.Apart.{past}
 use Rattle.grammar.specs.declared.Node.TheVariants as N
 use Rattle.grammar.specs.contracts.Node as node
-use Rattle.grammar.specs.Words.{kind_at, nodeAt, nodeFor, nodeStart, nodeWord, nodes, word}
-use Rattle.table.specs.Fields.{call_at, nodeOfTwo, headIn, headAt, placeFrom}
+use Rattle.grammar.specs.Words.{kind_at, node_at, node_for, node_start, node_word, nodes, word}
+use Rattle.table.specs.Fields.{call_at, node_of_two, head_in, head_at, place_from}
 
 -- only a call has more than two fields
-pub two_fields : (kind a b c d e f g h i : ℕ) → kind ≢ 7 → nodeFor kind a b c d e f g h i ≡ nodeOfTwo kind a b
-unfolding nodeFor nodes nodeOfTwo
+pub two_fields : (kind a b c d e f g h i : ℕ) → kind ≢ 7 → node_for kind a b c d e f g h i ≡ node_of_two kind a b
+unfolding node_for nodes node_of_two
 two_fields zero a b c d e f g h i other = refl
 two_fields (suc zero) a b c d e f g h i other = refl
 two_fields (suc (suc zero)) a b c d e f g h i other = refl
@@ -46,28 +46,28 @@ module _ (kind a b : ℕ) where
   between (suc (suc (suc (suc zero)))) h = refl
   between (suc (suc (suc (suc (suc n))))) h = absurd (omega arith)
 
-  below-16 : 11 ≤ kind → kind < 16 → N.Unknown ≡ nodeOfTwo kind a b
-  unfolding nodeFor nodeOfTwo
-  below-16 low high =
+  below_16 : 11 ≤ kind → kind < 16 → N.Unknown ≡ node_of_two kind a b
+  unfolding node_for node_of_two
+  below_16 low high =
       let e : kind ≡ suc (suc (suc (suc (suc (suc (suc (suc (suc (suc (suc (kind - 11))))))))))) = omega arith in
       rw e (sym (between (kind - 11) (omega arith)))
 
   -- below 16 these are all
-  pub unknown-parsing : kind < 16 → kind ≢ 1 → kind ≢ 2 → kind ≢ 3 → kind ≢ 4 → kind ≢ 5 → kind ≢ 6 → kind ≢ 7 → kind ≢ 8 → kind ≢ 9 → kind ≢ 10
-      → N.Unknown ≡ nodeOfTwo kind a b
-  unfolding nodeFor nodes nodeOfTwo
-  unknown-parsing h n1 n2 n3 n4 n5 n6 n7 n8 n9 n10 =
+  pub unknown_parsing : kind < 16 → kind ≢ 1 → kind ≢ 2 → kind ≢ 3 → kind ≢ 4 → kind ≢ 5 → kind ≢ 6 → kind ≢ 7 → kind ≢ 8 → kind ≢ 9 → kind ≢ 10
+      → N.Unknown ≡ node_of_two kind a b
+  unfolding node_for nodes node_of_two
+  unknown_parsing h n1 n2 n3 n4 n5 n6 n7 n8 n9 n10 =
       ⊎_elim
       (λ (e : kind ≡ 0). rw e)
       (λ (h0 : 1 ≤ kind).
-      below-16 (past 10 (past 9 (past 8 (past 7 (past 6 (past 5 (past 4 (past 3 (past 2 (past 1 h0 n1) n2) n3) n4) n5) n6) n7) n8) n9) n10) h)
+      below_16 (past 10 (past 9 (past 8 (past 7 (past 6 (past 5 (past 4 (past 3 (past 2 (past 1 h0 n1) n2) n3) n4) n5) n6) n7) n8) n9) n10) h)
       (eq-zero-or-pos kind)
 
   -- from 16 on these are all
-  pub unknown-expression : 16 ≤ kind → kind ≢ 16 → kind ≢ 17 → kind ≢ 18 → kind ≢ 19 → kind ≢ 20 → kind ≢ 21 → kind ≢ 22 → kind ≢ 23 → kind ≢ 24 → kind ≢ 25
-      → kind ≢ 26 → kind ≢ 27 → kind ≢ 28 → N.Unknown ≡ nodeOfTwo kind a b
-  unfolding nodeFor nodes nodeOfTwo
-  unknown-expression h n16 n17 n18 n19 n20 n21 n22 n23 n24 n25 n26 n27 n28 =
+  pub unknown_expression : 16 ≤ kind → kind ≢ 16 → kind ≢ 17 → kind ≢ 18 → kind ≢ 19 → kind ≢ 20 → kind ≢ 21 → kind ≢ 22 → kind ≢ 23 → kind ≢ 24 → kind ≢ 25
+      → kind ≢ 26 → kind ≢ 27 → kind ≢ 28 → N.Unknown ≡ node_of_two kind a b
+  unfolding node_for nodes node_of_two
+  unknown_expression h n16 n17 n18 n19 n20 n21 n22 n23 n24 n25 n26 n27 n28 =
       sym
       (get_or-eq_default (nodes a b 0 0 0 0 0 0 0) N.Unknown
       (past 28 (past 27 (past 26 (past 25 (past 24 (past 23 (past 22 (past 21 (past 20 (past 19 (past 18 (past 17 (past 16 h n16) n17) n18) n19) n20) n21) n22) n23) n24) n25) n26) n27) n28))
@@ -78,45 +78,45 @@ told false e = never e
 
 module _ (words : List ℕ) (k : ℕ) where
   -- the kind that was read at the node's place
-  pub kind-read : {place kind : ℕ} → place ≡ nodeStart words k → kind ≡ word words place → kind_at words k ≡ kind
-  kind-read at read = rw (← at) (sym read)
+  pub kind_read : {place kind : ℕ} → place ≡ node_start words k → kind ≡ word words place → kind_at words k ≡ kind
+  kind_read at read = rw (← at) (sym read)
 
   -- what a reader of many nodes sees is node k
-  pub head_of : {first : ℕ} → first ≡ nodeStart words 0 → headIn words (placeFrom first k) ≡ headAt words k
-  head_of {first} e = let p : placeFrom first k ≡ nodeStart words k = omega arith in rw p
+  pub head_of : {first : ℕ} → first ≡ node_start words 0 → head_in words (place_from first k) ≡ head_at words k
+  head_of {first} e = let p : place_from first k ≡ node_start words k = omega arith in rw p
 
   -- a node whose kind is known: its fields are read, and no others matter
   pub node_of : (kind : ℕ) → kind_at words k ≡ kind
-      → let field : ℕ → ℕ = nodeWord words k in
-      nodeAt words k ≡ nodeFor kind (field 1) (field 2) (field 3) (field 4) (field 5) (field 6) (field 7) (field 8) (field 9)
-  unfolding nodeAt
+      → let field : ℕ → ℕ = node_word words k in
+      node_at words k ≡ node_for kind (field 1) (field 2) (field 3) (field 4) (field 5) (field 6) (field 7) (field 8) (field 9)
+  unfolding node_at
   node_of kind e = rw e
 
   -- where every kind but some makes a node with one of these tags, so does a kind that is none of those; a number without a line is Unknown
-  pub other-kinds : (but : ℕ → Bool) (tags : List ℕ) → T (has_key tags 0)
-      → ((a b c d e f g h i : ℕ) → smallestFailing (λ kind. but kind || has_key tags (tag_of node.the_type (nodeFor kind a b c d e f g h i))) 0 29 ≡ none)
-      → but (kind_at words k) ≡ false → OneOf tags (tag_of node.the_type (nodeAt words k))
-  unfolding nodeAt nodeFor nodes
-  other-kinds but tags unknown all e = go (ltb (kind_at words k) 29) refl
+  pub other_kinds : (but : ℕ → Bool) (tags : List ℕ) → T (has_key tags 0)
+      → ((a b c d e f g h i : ℕ) → smallest_failing (λ kind. but kind || has_key tags (tag_of node.the_type (node_for kind a b c d e f g h i))) 0 29 ≡ none)
+      → but (kind_at words k) ≡ false → OneOf tags (tag_of node.the_type (node_at words k))
+  unfolding node_at node_for nodes
+  other_kinds but tags unknown all e = go (ltb (kind_at words k) 29) refl
     where
       field : ℕ → ℕ
-      field = nodeWord words k
+      field = node_word words k
 
-      go : (b : Bool) → ltb (kind_at words k) 29 ≡ b → OneOf tags (tag_of node.the_type (nodeAt words k))
+      go : (b : Bool) → ltb (kind_at words k) 29 ≡ b → OneOf tags (tag_of node.the_type (node_at words k))
       go true small =
-          let found = smallest-all _ 0 29 (all (field 1) (field 2) (field 3) (field 4) (field 5) (field 6) (field 7) (field 8) (field 9)) (kind_at words k) (omega arith)
+          let found = smallest_all _ 0 29 (all (field 1) (field 2) (field 3) (field 4) (field 5) (field 6) (field 7) (field 8) (field 9)) (kind_at words k) (omega arith)
           (ltb-true _ _ small) in
           hit tags _ (told _ (rw e at found))
       go false large =
-          let gone : nodeAt words k ≡ N.Unknown =
+          let gone : node_at words k ≡ N.Unknown =
           get_or-eq_default (nodes (field 1) (field 2) (field 3) (field 4) (field 5) (field 6) (field 7) (field 8) (field 9)) N.Unknown
           (ltb-false (kind_at words k) 29 large) in
           rw gone (hit tags 0 unknown)
 
-  pub node_call : kind_at words k ≡ 7 → call_at words k ≡ nodeAt words k
-  unfolding nodeAt nodeFor nodes
+  pub node_call : kind_at words k ≡ 7 → call_at words k ≡ node_at words k
+  unfolding node_at node_for nodes
   node_call e = rw e
 
-  pub node-other : kind_at words k ≢ 7 → nodeOfTwo (kind_at words k) (nodeWord words k 1) (nodeWord words k 2) ≡ nodeAt words k
-  unfolding nodeAt
-  node-other other = sym (two_fields _ _ _ _ _ _ _ _ _ _ other)
+  pub node_other : kind_at words k ≢ 7 → node_of_two (kind_at words k) (node_word words k 1) (node_word words k 2) ≡ node_at words k
+  unfolding node_at
+  node_other other = sym (two_fields _ _ _ _ _ _ _ _ _ _ other)

@@ -1,8 +1,8 @@
 // Where the records of a table lie, and what stands there. Only this module knows it, and the scan of `form`, which goes over all
 // words; each function answers every number, 0 past the table's end.
 ghost use Rattle.std.specs.Prelude.{◌≡◌, ◌+◌, ◌*◌, ◌<◌, ◌≤◌};
-ghost use Rattle.grammar.specs.Words.{inheritedCount, literalCount, nodeAt, nodeCount, nodeStart, kind_at, nodeWord, returnedCount, ruleCount, ruleStart, ruleWord, word};
-ghost use Rattle.table.specs.Fields.{call_at, nodeOfTwo, headIn, placeFrom};
+ghost use Rattle.grammar.specs.Words.{inherited_count, literal_count, node_at, node_count, node_start, kind_at, node_word, returned_count, rule_count, rule_start, rule_word, word};
+ghost use Rattle.table.specs.Fields.{call_at, node_of_two, head_in, place_from};
 
 use grammar::{Arithmetic, Node, Operator};
 use values::words::signed_of;
@@ -16,26 +16,26 @@ pub fn word_at(words: &[u16], i: usize) -> u16
 
 // "Words 0 to 2: R rules, K nodes, L literal bytes."
 pub fn rule_count(words: &[u16]) -> u16
-    ensures { result ≡ ruleCount words.now }
+    ensures { result ≡ rule_count words.now }
 {
     word_at(words, 0)
 }
 
 pub fn node_count(words: &[u16]) -> u16
-    ensures { result ≡ nodeCount words.now }
+    ensures { result ≡ node_count words.now }
 {
     word_at(words, 1)
 }
 
 pub fn literal_count(words: &[u16]) -> u16
-    ensures { result ≡ literalCount words.now }
+    ensures { result ≡ literal_count words.now }
 {
     word_at(words, 2)
 }
 
 // "Then R rule records of 15 words": the first word of rule r.
 pub fn rule_start(r: u16) -> usize
-    ensures { result ≡ ruleStart r }
+    ensures { result ≡ rule_start r }
 {
     3 + 15 * r as usize
 }
@@ -49,7 +49,7 @@ pub fn node_start(rules: u16, k: u16) -> usize
 
 // Word j of rule r.
 pub fn rule_word(words: &[u16], r: u16, j: u16) -> u16
-    ensures { result ≡ ruleWord words.now r j }
+    ensures { result ≡ rule_word words.now r j }
 {
     word_at(words, rule_start(r) + j as usize)
 }
@@ -63,14 +63,14 @@ pub fn kind_at(words: &[u16], k: u16) -> u16
 
 // Word j of node k.
 pub fn node_word(words: &[u16], k: u16, j: u16) -> u16
-    ensures { result ≡ nodeWord words.now k j }
+    ensures { result ≡ node_word words.now k j }
 {
     word_at(words, node_start(rule_count(words), k) + j as usize)
 }
 
 // Where the record of node k lies: for readers that look at its kind first, and then only at the fields that this kind has.
 pub fn node_place(words: &[u16], k: u16) -> u32
-    ensures { result ≡ nodeStart words.now k }
+    ensures { result ≡ node_start words.now k }
 {
     3 + 15 * rule_count(words) as u32 + 10 * k as u32
 }
@@ -99,7 +99,7 @@ pub struct Head {
 
 // Kind and fields a and b of node k, for readers of many nodes: they ask once where the record of node 0 lies.
 pub fn head_from(words: &[u16], first: u32, k: u16) -> Head
-    ensures { result ≡ headIn words.now (placeFrom first k) }
+    ensures { result ≡ head_in words.now (place_from first k) }
 {
     let at = first as usize + 10 * k as usize;
     if at + 2 < words.len() {
@@ -118,37 +118,37 @@ pub fn head_from(words: &[u16], first: u32, k: u16) -> Head
 
 // "Rule record: body node; n inherited; four types; m returned; four returned nodes; four returned types."
 pub fn body(words: &[u16], r: u16) -> u16
-    ensures { result ≡ ruleWord words.now r 0 }
+    ensures { result ≡ rule_word words.now r 0 }
 {
     rule_word(words, r, 0)
 }
 
 pub fn inherited_count(words: &[u16], r: u16) -> u16
-    ensures { result ≡ inheritedCount words.now r }
+    ensures { result ≡ inherited_count words.now r }
 {
     rule_word(words, r, 1)
 }
 
 pub fn inherited_type(words: &[u16], r: u16, i: u16) -> u16
-    ensures { result ≡ ruleWord words.now r (2 + i) }
+    ensures { result ≡ rule_word words.now r (2 + i) }
 {
     word_at(words, rule_start(r) + (2 + i as usize))
 }
 
 pub fn returned_count(words: &[u16], r: u16) -> u16
-    ensures { result ≡ returnedCount words.now r }
+    ensures { result ≡ returned_count words.now r }
 {
     rule_word(words, r, 6)
 }
 
 pub fn returned_node(words: &[u16], r: u16, i: u16) -> u16
-    ensures { result ≡ ruleWord words.now r (7 + i) }
+    ensures { result ≡ rule_word words.now r (7 + i) }
 {
     word_at(words, rule_start(r) + (7 + i as usize))
 }
 
 pub fn returned_type(words: &[u16], r: u16, i: u16) -> u16
-    ensures { result ≡ ruleWord words.now r (11 + i) }
+    ensures { result ≡ rule_word words.now r (11 + i) }
 {
     word_at(words, rule_start(r) + (11 + i as usize))
 }
@@ -156,7 +156,7 @@ pub fn returned_type(words: &[u16], r: u16, i: u16) -> u16
 // A parsing node that is no call, from its fields a and b.
 fn parsing_node(kind: u16, a: u16, b: u16) -> Node
     requires { kind < 16 }
-    ensures { result ≡ nodeOfTwo kind a b }
+    ensures { result ≡ node_of_two kind a b }
 {
     match kind {
         1 => Node::Empty,
@@ -176,7 +176,7 @@ fn parsing_node(kind: u16, a: u16, b: u16) -> Node
 // An expression, from its fields a and b.
 fn expression_node(kind: u16, a: u16, b: u16) -> Node
     requires { 16 ≤ kind }
-    ensures { result ≡ nodeOfTwo kind a b }
+    ensures { result ≡ node_of_two kind a b }
 {
     match kind {
         16 => Node::Bool(a == 1),
@@ -215,7 +215,7 @@ fn call_at(words: &[u16], k: u16) -> Node
 
 // Node k of the table. A kind that document 01 has no line for is Unknown.
 pub fn node_at(words: &[u16], k: u16) -> Node
-    ensures { result ≡ nodeAt words.now k }
+    ensures { result ≡ node_at words.now k }
 {
     let kind = kind_at(words, k);
     if kind == 7 {

@@ -1,7 +1,7 @@
 // SIZE.
 ghost use Rattle.std.specs.Prelude.{◌≡◌};
 ghost use Rattle.laws.specs.Range.{within};
-ghost use Rattle.grammar.specs.Form.{sizeOk};
+ghost use Rattle.grammar.specs.Form.{size_ok};
 
 // A word as a length.
 pub fn wide(word: u16) -> usize
@@ -22,7 +22,7 @@ pub fn in_range(low: usize, high: usize, n: usize) -> bool
 
 // "under 3 words, R, K or L out of range, words not 3+15R+10K, literal bytes not L": the opposite.
 pub fn size_ok(words: &[u16], literal_bytes: usize) -> bool
-    ensures { result ≡ sizeOk words.now literal_bytes }
+    ensures { result ≡ size_ok words.now literal_bytes }
 {
     if words.len() < 3 {
         return false;

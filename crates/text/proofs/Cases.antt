@@ -10,8 +10,8 @@ use Rattle.text.specs.declared.Number.TheVariants as N
 use Rattle.text.specs.declared.Bytes.{Bytes}
 use Rattle.text.specs.declared.Bytes.TheVariants as B
 use Rattle.text.specs.Stored.{Taken, taking}
-use Rattle.text.specs.Written.{digits, decimal, signedDecimal, hexDigit, hex}
-use Rattle.text.specs.Found.{afterKey, digit, grown, numberFrom, number, hexValue, pairValue, pairs}
+use Rattle.text.specs.Written.{digits, decimal, signed_decimal, hex_digit, hex}
+use Rattle.text.specs.Found.{after_key, digit, grown, number_from, number, hex_value, pair_value, pairs}
 
 -- ════ What is written ════
 
@@ -28,15 +28,15 @@ unfolding decimal digits
 decimals = refl
 
 -- `3`, `-3`, `-10`
-pub signed-decimals :
-    map signedDecimal (pos 3 ∷ negsuc 2 ∷ negsuc 9 ∷ []) ≡ (51 ∷ []) ∷ (45 ∷ 51 ∷ []) ∷ (45 ∷ 49 ∷ 48 ∷ []) ∷ []
-unfolding signedDecimal decimal digits
-signed-decimals = refl
+pub signed_decimals :
+    map signed_decimal (pos 3 ∷ negsuc 2 ∷ negsuc 9 ∷ []) ≡ (51 ∷ []) ∷ (45 ∷ 51 ∷ []) ∷ (45 ∷ 49 ∷ 48 ∷ []) ∷ []
+unfolding signed_decimal decimal digits
+signed_decimals = refl
 
 -- bytes 10, 255, 48, 159: `0aff309f`
-pub pairs-written : hex (10 ∷ 255 ∷ 48 ∷ 159 ∷ []) ≡ 48 ∷ 97 ∷ 102 ∷ 102 ∷ 51 ∷ 48 ∷ 57 ∷ 102 ∷ []
-unfolding hex hexDigit
-pairs-written = refl
+pub pairs_written : hex (10 ∷ 255 ∷ 48 ∷ 159 ∷ []) ≡ 48 ∷ 97 ∷ 102 ∷ 102 ∷ 51 ∷ 48 ∷ 57 ∷ 102 ∷ []
+unfolding hex hex_digit
+pairs_written = refl
 
 -- ════ Decimals that are read ════
 
@@ -45,30 +45,30 @@ abbrev read : (limit : ℕ) → List ℕ → Number
 read limit l = number 10 limit 3 l
 
 -- `0`, `7`, `10`, `65535`, with a byte behind the line
-pub numbers-read :
+pub numbers_read :
     map (read 65535) ((48 ∷ 10 ∷ []) ∷ (55 ∷ 10 ∷ 55 ∷ []) ∷ (49 ∷ 48 ∷ 10 ∷ []) ∷ (54 ∷ 53 ∷ 53 ∷ 51 ∷ 53 ∷ 10 ∷ []) ∷ [])
     ≡ N.Is 0 5 ∷ N.Is 7 5 ∷ N.Is 10 6 ∷ N.Is 65535 9 ∷ []
-unfolding number numberFrom grown digit
-numbers-read = refl
+unfolding number number_from grown digit
+numbers_read = refl
 
 -- 'no leading zero': `01`, `00`
 pub leading_zeros : map (read 65535) ((48 ∷ 49 ∷ 10 ∷ []) ∷ (48 ∷ 48 ∷ 10 ∷ []) ∷ []) ≡ N.Wrong ∷ N.Wrong ∷ []
-unfolding number numberFrom grown digit
+unfolding number number_from grown digit
 leading_zeros = refl
 
 -- the greatest 32-bit number, and one more; one more than 65535
-pub above-the-limit :
+pub above_the_limit :
     map (read 4294967295) ((52 ∷ 50 ∷ 57 ∷ 52 ∷ 57 ∷ 54 ∷ 55 ∷ 50 ∷ 57 ∷ 53 ∷ 10 ∷ []) ∷ (52 ∷ 50 ∷ 57 ∷ 52 ∷ 57 ∷ 54 ∷ 55 ∷ 50 ∷ 57 ∷ 54 ∷ 10 ∷ []) ∷ [])
     ≡ N.Is 4294967295 14 ∷ N.Wrong ∷ []
-unfolding number numberFrom grown digit
-above-the-limit = refl
+unfolding number number_from grown digit
+above_the_limit = refl
 
-pub above-16-bits : read 65535 (54 ∷ 53 ∷ 53 ∷ 51 ∷ 54 ∷ 10 ∷ []) ≡ N.Wrong
-unfolding number numberFrom grown digit
-above-16-bits = refl
+pub above_16_bits : read 65535 (54 ∷ 53 ∷ 53 ∷ 51 ∷ 54 ∷ 10 ∷ []) ≡ N.Wrong
+unfolding number number_from grown digit
+above_16_bits = refl
 
 -- no digit, none before the end, no end; the bytes on both sides of the digits, as first and as second byte; another byte than `end` ends it
-pub no-numbers :
+pub no_numbers :
     map (read 65535)
     ([]
     ∷ (10 ∷ [])
@@ -80,31 +80,31 @@ pub no-numbers :
     ∷ (49 ∷ 32 ∷ [])
     ∷ [])
     ≡ N.Wrong ∷ N.Wrong ∷ N.Wrong ∷ N.Wrong ∷ N.Wrong ∷ N.Wrong ∷ N.Wrong ∷ N.Wrong ∷ []
-unfolding number numberFrom grown digit
-no-numbers = refl
+unfolding number number_from grown digit
+no_numbers = refl
 
 -- ════ Hex pairs that are read ════
 
 -- `0` to `9`, `a` to `f`, and the bytes beside them; 'all hex is lower-case': `A`, `F`
-pub hex-digits :
-    map hexValue (47 ∷ 48 ∷ 57 ∷ 58 ∷ 65 ∷ 70 ∷ 96 ∷ 97 ∷ 102 ∷ 103 ∷ []) ≡ 16 ∷ 0 ∷ 9 ∷ 16 ∷ 16 ∷ 16 ∷ 16 ∷ 10 ∷ 15 ∷ 16 ∷ []
-unfolding hexValue digit
-hex-digits = refl
+pub hex_digits :
+    map hex_value (47 ∷ 48 ∷ 57 ∷ 58 ∷ 65 ∷ 70 ∷ 96 ∷ 97 ∷ 102 ∷ 103 ∷ []) ≡ 16 ∷ 0 ∷ 9 ∷ 16 ∷ 16 ∷ 16 ∷ 16 ∷ 10 ∷ 15 ∷ 16 ∷ []
+unfolding hex_value digit
+hex_digits = refl
 
 -- at place 3 of a text
-abbrev readPairs : List ℕ → Taken Bytes
-readPairs l = pairs 0 3 l
+abbrev read_pairs : List ℕ → Taken Bytes
+read_pairs l = pairs 0 3 l
 
 -- no pair; `0aff309f`, with a byte behind the line
-pub pairs-read :
-    map readPairs ((10 ∷ []) ∷ (48 ∷ 97 ∷ 102 ∷ 102 ∷ 51 ∷ 48 ∷ 57 ∷ 102 ∷ 10 ∷ 55 ∷ []) ∷ [])
+pub pairs_read :
+    map read_pairs ((10 ∷ []) ∷ (48 ∷ 97 ∷ 102 ∷ 102 ∷ 51 ∷ 48 ∷ 57 ∷ 102 ∷ 10 ∷ 55 ∷ []) ∷ [])
     ≡ taking [] (B.Are 0 4) ∷ taking (10 ∷ 255 ∷ 48 ∷ 159 ∷ []) (B.Are 4 12) ∷ []
-unfolding pairs pairValue hexValue digit
-pairs-read = refl
+unfolding pairs pair_value hex_value digit
+pairs_read = refl
 
 -- no line's end: `` and `0a`; half a pair: `0`, `0a0`; 'lower-case': `0A`, `A0`; no hex digit: `0g`
 pub no_pairs :
-    map (λ (l : List ℕ). (readPairs l).found)
+    map (λ (l : List ℕ). (read_pairs l).found)
     ([]
     ∷ (48 ∷ 97 ∷ [])
     ∷ (48 ∷ 10 ∷ [])
@@ -114,15 +114,15 @@ pub no_pairs :
     ∷ (48 ∷ 103 ∷ 10 ∷ [])
     ∷ [])
     ≡ B.Wrong ∷ B.Wrong ∷ B.Wrong ∷ B.Wrong ∷ B.Wrong ∷ B.Wrong ∷ B.Wrong ∷ []
-unfolding pairs pairValue hexValue digit
+unfolding pairs pair_value hex_value digit
 no_pairs = refl
 
 -- ════ A key ════
 
 -- the key `a=` in `a=7`, in `a=`, in `a`, in `a7` and in `b=`
 pub keys :
-    map (afterKey (97 ∷ 61 ∷ []) 3)
+    map (after_key (97 ∷ 61 ∷ []) 3)
     ((97 ∷ 61 ∷ 55 ∷ []) ∷ (97 ∷ 61 ∷ []) ∷ (97 ∷ []) ∷ (97 ∷ 55 ∷ []) ∷ (98 ∷ 61 ∷ []) ∷ [])
     ≡ P.At 5 ∷ P.At 5 ∷ P.Wrong ∷ P.Wrong ∷ P.Wrong ∷ []
-unfolding afterKey
+unfolding after_key
 keys = refl

@@ -10,15 +10,15 @@ use lib.ListN.{length, take, drop, set, length-append, length-drop, drop_of_leng
 use lib.Seq.{take_all}
 use lib.Signed.{lt_z}
 use borrow.Author.Tests.{lt-ltb, le-ltb, ltb-true, ltb-false}
-use Rattle.text.specs.Written.{digits, decimal, signedDecimal}
-use Rattle.text.specs.Found.{digit, tooLarge}
+use Rattle.text.specs.Written.{digits, decimal, signed_decimal}
+use Rattle.text.specs.Found.{digit, too_large}
 
 -- ════ What is written ════
 
-pub digits-small : (f n : ℕ) → n < 10 → digits f n ≡ (48 + n) ∷ []
+pub digits_small : (f n : ℕ) → n < 10 → digits f n ≡ (48 + n) ∷ []
 unfolding digits
-digits-small zero n h = refl
-digits-small (suc f) n h = rw (lt-ltb n 10 h)
+digits_small zero n h = refl
+digits_small (suc f) n h = rw (lt-ltb n 10 h)
 
 pub digits_more : (f n : ℕ) → 10 ≤ n → digits (suc f) n ≡ digits f (n / 10) ++ ((48 + n % 10) ∷ [])
 unfolding digits
@@ -31,33 +31,33 @@ enough zero n h = rw (lt-ltb n 10 h)
 enough (suc f) n h =
     ap (λ (x : List ℕ). cond (ltb n 10) ((48 + n) ∷ []) (x ++ ((48 + n % 10) ∷ []))) (enough f (n / 10) (omega arith))
 
-pub decimal-small : (n : ℕ) → n < 10 → decimal n ≡ (48 + n) ∷ []
+pub decimal_small : (n : ℕ) → n < 10 → decimal n ≡ (48 + n) ∷ []
 unfolding decimal
-decimal-small n h = digits-small 9 n h
+decimal_small n h = digits_small 9 n h
 
-pub decimal-more : (n : ℕ) → 10 ≤ n → n < 10 ^ 10 → decimal n ≡ decimal (n / 10) ++ ((48 + n % 10) ∷ [])
+pub decimal_more : (n : ℕ) → 10 ≤ n → n < 10 ^ 10 → decimal n ≡ decimal (n / 10) ++ ((48 + n % 10) ∷ [])
 unfolding decimal
-decimal-more n h g = digits_more 8 n h ∙ ap (λ (x : List ℕ). x ++ ((48 + n % 10) ∷ [])) (sym (enough 8 (n / 10) (omega arith)))
+decimal_more n h g = digits_more 8 n h ∙ ap (λ (x : List ℕ). x ++ ((48 + n % 10) ∷ [])) (sym (enough 8 (n / 10) (omega arith)))
 
 -- a decimal with one more digit
-pub decimal-grown : (v d : ℕ) → 0 < v → d < 10 → v * 10 + d < 10 ^ 10 → decimal (v * 10 + d) ≡ decimal v ++ ((48 + d) ∷ [])
-decimal-grown v d h g s =
+pub decimal_grown : (v d : ℕ) → 0 < v → d < 10 → v * 10 + d < 10 ^ 10 → decimal (v * 10 + d) ≡ decimal v ++ ((48 + d) ∷ [])
+decimal_grown v d h g s =
     let q : (v * 10 + d) / 10 ≡ v = omega arith in
     let r : (v * 10 + d) % 10 ≡ d = omega arith in
-    decimal-more (v * 10 + d) (omega arith) s ∙ ap (λ (x : ℕ). decimal x ++ ((48 + (v * 10 + d) % 10) ∷ [])) q
+    decimal_more (v * 10 + d) (omega arith) s ∙ ap (λ (x : ℕ). decimal x ++ ((48 + (v * 10 + d) % 10) ∷ [])) q
     ∙ ap (λ (x : ℕ). decimal v ++ ((48 + x) ∷ [])) r
 
 -- ════ From the last digit to the first, into bytes ════
 
 -- what is stored at a place stands before what stood behind it
-drop-stored : (l : List ℕ) (i x : ℕ) → i < length l → drop i (set l i x) ≡ x ∷ drop (suc i) l
-drop-stored [] i x h = absurd (omega arith)
-drop-stored (y ∷ l) zero x h = refl
-drop-stored (y ∷ l) (suc i) x h = drop-stored l i x (omega arith)
+drop_stored : (l : List ℕ) (i x : ℕ) → i < length l → drop i (set l i x) ≡ x ∷ drop (suc i) l
+drop_stored [] i x h = absurd (omega arith)
+drop_stored (y ∷ l) zero x h = refl
+drop_stored (y ∷ l) (suc i) x h = drop_stored l i x (omega arith)
 
 -- no digit yet
-pub digit-none : (l : List ℕ) (n : ℕ) → length l ≡ 10 → decimal n ++ drop 10 l ≡ decimal n
-digit-none l n h = rw (drop_of_length-le l (let g : length l ≤ 10 = omega arith in g)) (append-nil (decimal n))
+pub digit_none : (l : List ℕ) (n : ℕ) → length l ≡ 10 → decimal n ++ drop 10 l ≡ decimal n
+digit_none l n h = rw (drop_of_length-le l (let g : length l ≤ 10 = omega arith in g)) (append-nil (decimal n))
 
 -- room for the digits that are left
 pub digit_room : (i rest : ℕ) → 10 ≤ rest → rest < 10 ^ i → (0 < i - 1) × (rest / 10 < 10 ^ (i - 1))
@@ -70,62 +70,62 @@ module _ (l : List ℕ) (i n rest : ℕ) (some : 0 < i) (fits : i ≤ length l) 
   back = let e : suc (i - 1) ≡ i = omega arith in rw e
 
   -- a digit, and more before it
-  pub digit-more : 10 ≤ rest → rest < 10 ^ 10 → decimal (rest / 10) ++ drop (i - 1) (set l (i - 1) (48 + rest % 10)) ≡ decimal n
-  digit-more more bound =
-      rw (drop-stored l (i - 1) (48 + rest % 10) (omega arith), back)
-      (sym (append_assoc (decimal (rest / 10)) ((48 + rest % 10) ∷ []) (drop i l)) ∙ ap (λ (x : List ℕ). x ++ drop i l) (sym (decimal-more rest more bound)) ∙ same)
+  pub digit_more : 10 ≤ rest → rest < 10 ^ 10 → decimal (rest / 10) ++ drop (i - 1) (set l (i - 1) (48 + rest % 10)) ≡ decimal n
+  digit_more more bound =
+      rw (drop_stored l (i - 1) (48 + rest % 10) (omega arith), back)
+      (sym (append_assoc (decimal (rest / 10)) ((48 + rest % 10) ∷ []) (drop i l)) ∙ ap (λ (x : List ℕ). x ++ drop i l) (sym (decimal_more rest more bound)) ∙ same)
 
   -- the first digit
-  pub digit-first : rest < 10 → drop (i - 1) (set l (i - 1) (48 + rest)) ≡ decimal n
-  digit-first small =
-      rw (drop-stored l (i - 1) (48 + rest) (omega arith), back)
-      (ap (λ (x : List ℕ). x ++ drop i l) (sym (decimal-small rest small)) ∙ same)
+  pub digit_first : rest < 10 → drop (i - 1) (set l (i - 1) (48 + rest)) ≡ decimal n
+  digit_first small =
+      rw (drop_stored l (i - 1) (48 + rest) (omega arith), back)
+      (ap (λ (x : List ℕ). x ++ drop i l) (sym (decimal_small rest small)) ∙ same)
 
 -- the part that the digits are
-pub digits-part : (l : List ℕ) (i n : ℕ) → length l ≡ 10 → drop i l ≡ decimal n → take (10 - i) (drop i l) ≡ decimal n
-digits-part l i n h e = take_all (10 - i) (drop i l) (omega (arith, length-drop i l)) ∙ e
+pub digits_part : (l : List ℕ) (i n : ℕ) → length l ≡ 10 → drop i l ≡ decimal n → take (10 - i) (drop i l) ≡ decimal n
+digits_part l i n h e = take_all (10 - i) (drop i l) (omega (arith, length-drop i l)) ∙ e
 
-cond-length : (t : Bool) (x y : List ℕ) (k : ℕ) → length x ≤ k → length y ≤ k → length (cond t x y) ≤ k
-cond-length true x y k h g = h
-cond-length false x y k h g = g
+cond_length : (t : Bool) (x y : List ℕ) (k : ℕ) → length x ≤ k → length y ≤ k → length (cond t x y) ≤ k
+cond_length true x y k h g = h
+cond_length false x y k h g = g
 
-digits-length : (f n : ℕ) → length (digits f n) ≤ f + 1
+digits_length : (f n : ℕ) → length (digits f n) ≤ f + 1
 unfolding digits
-digits-length zero n = omega arith
-digits-length (suc f) n =
-    cond-length (ltb n 10) _ _ (suc f + 1) (omega arith) (simp length-append (omega (arith, digits-length f (n / 10))))
+digits_length zero n = omega arith
+digits_length (suc f) n =
+    cond_length (ltb n 10) _ _ (suc f + 1) (omega arith) (simp length-append (omega (arith, digits_length f (n / 10))))
 
-pub decimal-length : (n : ℕ) → length (decimal n) ≤ 10
+pub decimal_length : (n : ℕ) → length (decimal n) ≤ 10
 unfolding decimal
-decimal-length n = digits-length 9 n
+decimal_length n = digits_length 9 n
 
 -- ════ A signed decimal ════
 
-pub signed-negative : (z : ℤ) → lt_z z (pos 0) ≡ true → signedDecimal z ≡ (45 ∷ []) ++ decimal (nat_abs z)
-unfolding signedDecimal
-signed-negative (pos n) e = absurd (omega (arith, ltb-true n 0 e))
-signed-negative (negsuc n) e = refl
+pub signed_negative : (z : ℤ) → lt_z z (pos 0) ≡ true → signed_decimal z ≡ (45 ∷ []) ++ decimal (nat_abs z)
+unfolding signed_decimal
+signed_negative (pos n) e = absurd (omega (arith, ltb-true n 0 e))
+signed_negative (negsuc n) e = refl
 
-pub signed-other : (z : ℤ) → lt_z z (pos 0) ≡ false → signedDecimal z ≡ decimal (nat_abs z)
-unfolding signedDecimal
-signed-other (pos n) e = refl
-signed-other (negsuc n) e = let z : ◌≡◌ {A = ℕ} 0 1 = cc in absurd (omega arith)
+pub signed_other : (z : ℤ) → lt_z z (pos 0) ≡ false → signed_decimal z ≡ decimal (nat_abs z)
+unfolding signed_decimal
+signed_other (pos n) e = refl
+signed_other (negsuc n) e = let z : ◌≡◌ {A = ℕ} 0 1 = cc in absurd (omega arith)
 
 -- ════ One digit ════
 
-pub digit-is : (d : ℕ) → d < 10 → digit (48 + d) ≡ d
+pub digit_is : (d : ℕ) → d < 10 → digit (48 + d) ≡ d
 unfolding digit
-digit-is d h = rw (le-ltb (48 + d) 48 (omega arith), le-ltb 57 (48 + d) (omega arith)) (omega arith)
+digit_is d h = rw (le-ltb (48 + d) 48 (omega arith), le-ltb 57 (48 + d) (omega arith)) (omega arith)
 
-pub digit-above : (b : ℕ) → 57 < b → digit b ≡ tooLarge
+pub digit_above : (b : ℕ) → 57 < b → digit b ≡ too_large
 unfolding digit
-digit-above b h = rw (le-ltb b 48 (omega arith), lt-ltb 57 b h)
+digit_above b h = rw (le-ltb b 48 (omega arith), lt-ltb 57 b h)
 
-pub digit-most : (b : ℕ) → digit b ≤ tooLarge
+pub digit_most : (b : ℕ) → digit b ≤ too_large
 unfolding digit
-digit-most b = go (ltb b 48) (ltb 57 b) refl
+digit_most b = go (ltb b 48) (ltb 57 b) refl
   where
-    go : (s t : Bool) → ltb 57 b ≡ t → cond s tooLarge (cond t tooLarge (b - 48)) ≤ tooLarge
+    go : (s t : Bool) → ltb 57 b ≡ t → cond s too_large (cond t too_large (b - 48)) ≤ too_large
     go true t e = omega arith
     go false true e = omega arith
     go false false e = omega (arith, ltb-false 57 b e)
@@ -135,15 +135,15 @@ pub record IsDigit (b d : ℕ) : Type 0 where
   pub small : d ≤ 9
   pub byte : b ≡ 48 + d
 
-pub digit-byte : (b : ℕ) → digit b < tooLarge → IsDigit b (digit b)
+pub digit_byte : (b : ℕ) → digit b < too_large → IsDigit b (digit b)
 unfolding digit
-digit-byte b = below (ltb b 48) refl
+digit_byte b = below (ltb b 48) refl
   where
-    above : (t : Bool) → ltb 57 b ≡ t → 48 ≤ b → cond t tooLarge (b - 48) < tooLarge → IsDigit b (cond t tooLarge (b - 48))
+    above : (t : Bool) → ltb 57 b ≡ t → 48 ≤ b → cond t too_large (b - 48) < too_large → IsDigit b (cond t too_large (b - 48))
     above true e g h = absurd (omega arith)
     above false e g h = let k = ltb-false 57 b e in record { small = omega arith; byte = omega arith }
 
-    below : (t : Bool) → ltb b 48 ≡ t → cond t tooLarge (cond (ltb 57 b) tooLarge (b - 48)) < tooLarge
-        → IsDigit b (cond t tooLarge (cond (ltb 57 b) tooLarge (b - 48)))
+    below : (t : Bool) → ltb b 48 ≡ t → cond t too_large (cond (ltb 57 b) too_large (b - 48)) < too_large
+        → IsDigit b (cond t too_large (cond (ltb 57 b) too_large (b - 48)))
     below true e h = absurd (omega arith)
     below false e h = above (ltb 57 b) refl (ltb-false b 48 e) h

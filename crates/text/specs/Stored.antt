@@ -4,16 +4,16 @@
 use Rattle.std.specs.Prelude.{◌≡◌, List, ◌++◌, ℕ, ◌+◌, min, length}
 use Rattle.std.proofs.lemmas.List.Edits.{sets}
 
-abbrev pub largestPlace : ℕ
-largestPlace = 18446744073709551615
+abbrev pub largest_place : ℕ
+largest_place = 18446744073709551615
 
 -- the place n on from a place
-abbrev pub placeAfter : ℕ → ℕ → ℕ
-placeAfter at n = min (at + n) largestPlace
+abbrev pub place_after : ℕ → ℕ → ℕ
+place_after at n = min (at + n) largest_place
 
 -- a writer stored the numbers from place `at` on, those past the end left out, and answered the place after them
 pub record Wrote (before : List ℕ) (at : ℕ) (numbers : List ℕ) (next : ℕ) (after : List ℕ) : Type 0 where
-  pub next-is : next ≡ placeAfter at (length numbers)
+  pub next_is : next ≡ place_after at (length numbers)
   pub stored : after ≡ sets before at numbers
 
 -- what a reader takes off a text: numbers, and what it found in the end
@@ -30,5 +30,5 @@ also numbers t = taking (numbers ++ t.numbers) t.found
 
 -- a reader answered what t has found, and stored t's numbers from place `at` on, those past the end left out
 pub record Took {F : Type 0} (t : Taken F) (before : List ℕ) (at : ℕ) (found : F) (after : List ℕ) : Type 0 where
-  pub found-is : found ≡ t.found
+  pub found_is : found ≡ t.found
   pub stored : after ≡ sets before at t.numbers

@@ -11,14 +11,14 @@ unfoldable pub decimal : ℕ → List ℕ
 decimal n = digits 9 n
 
 -- the decimal of a signed 32-bit number: a minus sign before a negative one
-unfoldable pub signedDecimal : ℤ → List ℕ
-signedDecimal (pos n) = decimal n
-signedDecimal (negsuc n) = 45 ∷ decimal (suc n)
+unfoldable pub signed_decimal : ℤ → List ℕ
+signed_decimal (pos n) = decimal n
+signed_decimal (negsuc n) = 45 ∷ decimal (suc n)
 
 -- 'all hex is lower-case pairs': the digits 0 to 9 and a to f
-unfoldable pub hexDigit : ℕ → ℕ
-hexDigit n = cond (ltb n 10) (48 + n) (97 + (n - 10))
+unfoldable pub hex_digit : ℕ → ℕ
+hex_digit n = cond (ltb n 10) (48 + n) (97 + (n - 10))
 
 unfoldable pub hex : List ℕ → List ℕ
 hex [] = []
-hex (b ∷ bytes) = hexDigit (b / 16) ∷ hexDigit (b % 16) ∷ hex bytes
+hex (b ∷ bytes) = hex_digit (b / 16) ∷ hex_digit (b % 16) ∷ hex bytes

@@ -1,9 +1,9 @@
 // Decimals, lower-case hex pairs and keys: put into a lent slice, and taken off a text. Every function answers for every place (specs/Stored.antt):
 // storing past the end is no change, and a place stops at the largest number that a place can be.
 ghost use Rattle.std.specs.Prelude.{◌≡◌, [], ◌∷◌, ◌<◌, ◌≤◌, ◌^◌, drop, length, nat_abs};
-ghost use Rattle.text.specs.Stored.{Wrote, Took, placeAfter};
-ghost use Rattle.text.specs.Written.{decimal, signedDecimal, hexDigit, hex};
-ghost use Rattle.text.specs.Found.{afterKey, digit, grown, number, hexValue, pairValue, pairs};
+ghost use Rattle.text.specs.Stored.{Wrote, Took, place_after};
+ghost use Rattle.text.specs.Written.{decimal, signed_decimal, hex_digit, hex};
+ghost use Rattle.text.specs.Found.{after_key, digit, grown, number, hex_value, pair_value, pairs};
 
 // Where reading came to.
 #[derive(Drop)]
@@ -35,7 +35,7 @@ const TOO_LARGE: u64 = 4294967296;
 const LETTER_TEN: u8 = 97;
 
 fn next_place(at: usize) -> usize
-    ensures { result ≡ placeAfter at 1 }
+    ensures { result ≡ place_after at 1 }
 {
     if at == LARGEST_PLACE {
         return at;
@@ -105,7 +105,7 @@ fn magnitude(n: i32) -> u32
 
 // Stores a signed number in decimal, with a minus sign before a negative one.
 pub fn put_signed(text: &mut [u8], at: usize, n: i32) -> usize
-    ensures { Wrote text.old at (signedDecimal n) result text.new }
+    ensures { Wrote text.old at (signed_decimal n) result text.new }
 {
     let size = magnitude(n);
     if n < 0 {
@@ -117,7 +117,7 @@ pub fn put_signed(text: &mut [u8], at: usize, n: i32) -> usize
 
 fn hex_digit(n: u8) -> u8
     requires { n < 16 }
-    ensures { result ≡ hexDigit n }
+    ensures { result ≡ hex_digit n }
 {
     if n < 10 {
         return 48 + n;
@@ -142,7 +142,7 @@ pub fn put_hex(text: &mut [u8], at: usize, bytes: &[u8]) -> usize
 
 // The place after a key, where it stands at a place of the text.
 pub fn after_key(text: &[u8], at: usize, key: &[u8]) -> Place
-    ensures { result ≡ afterKey key.now at (drop at text.now) }
+    ensures { result ≡ after_key key.now at (drop at text.now) }
 {
     let mut p = at;
     let mut i = 0;
@@ -211,7 +211,7 @@ pub fn read_number(text: &[u8], at: usize, end: u8, limit: u32) -> Number
 }
 
 fn hex_value(byte: u8) -> u64
-    ensures { result ≡ hexValue byte }
+    ensures { result ≡ hex_value byte }
 {
     let d = digit_of(byte);
     if d <= 9 {
@@ -227,7 +227,7 @@ fn hex_value(byte: u8) -> u64
 }
 
 fn pair_value(first: u8, second: u8) -> u64
-    ensures { result ≡ pairValue first second }
+    ensures { result ≡ pair_value first second }
 {
     let high = hex_value(first);
     if 15 < high {

@@ -10,45 +10,45 @@ use lib.Dec.{leb}
 use lib.ListN.{get_or, set, length}
 use borrow.Author.Tests.{lt-ltb, le-ltb, le-leb, lt-leb, eq-eqb, ne_eqb, leb-true}
 use Rattle.laws.specs.Tests.{never, both_right}
-use Rattle.laws.specs.Pile.{through, comesTo, answered, opened, closed, turned, heavy, burden, heavy-some, heavy-two, heavy-one, burden-again, burden-some}
-use Rattle.grammar.specs.Words.{kind_at, nodeWord, nodes, nodeFor}
-use Rattle.grammar.specs.Tree.{exprAt, exprOf}
-use Rattle.grammar.specs.Types.{Env, exprType, negationType}
-use Rattle.grammar.specs.Form.{isKind}
-use Rattle.grammar.proofs.Nodes.{known-kind}
+use Rattle.laws.specs.Pile.{through, comes_to, answered, opened, closed, turned, heavy, burden, heavy_some, heavy_two, heavy_one, burden_again, burden_some}
+use Rattle.grammar.specs.Words.{kind_at, node_word, nodes, node_for}
+use Rattle.grammar.specs.Tree.{expr_at, expr_of}
+use Rattle.grammar.specs.Types.{Env, expr_type, negation_type}
+use Rattle.grammar.specs.Form.{is_kind}
+use Rattle.grammar.proofs.Nodes.{known_kind}
 use Rattle.typing.specs.declared.expressions.Judging.{Judging}
 use Rattle.typing.specs.Checked.{CheckedNode, Placed}
 use Rattle.typing.specs.Slots.{types_in}
-use Rattle.typing.specs.Expressions.{kindType, atWork, code_of, number_of, applied, operatorWeight, Operand, nodeDue, typeFound, judging, Judges, JudgedOn}
-use Rattle.typing.proofs.Walks.{sound, holds, exprIs, placed-node, placed-part}
+use Rattle.typing.specs.Expressions.{kind_type, at_work, code_of, number_of, applied, operator_weight, Operand, node_due, type_found, judging, Judges, JudgedOn}
+use Rattle.typing.proofs.Walks.{sound, holds, expr_is, placed_node, placed_part}
 use Rattle.typing.proofs.NodeKinds.{says, is}
 
 -- ════ An operator at work ════
 
 module _ (words : List ℕ) (env : Env) (place f t : ℕ) where
-  applied-left : code_of f < 28 → applied words env place f t ≡ kindType (code_of f) t (exprType env (exprAt words (number_of f)))
+  applied_left : code_of f < 28 → applied words env place f t ≡ kind_type (code_of f) t (expr_type env (expr_at words (number_of f)))
   unfolding applied
-  applied-left h = rw (lt-ltb (code_of f) 28 h)
+  applied_left h = rw (lt-ltb (code_of f) 28 h)
 
-  applied-negation : code_of f ≡ 28 → applied words env place f t ≡ negationType t
+  applied_negation : code_of f ≡ 28 → applied words env place f t ≡ negation_type t
   unfolding applied
-  applied-negation e = rw (le-ltb (code_of f) 28 (omega arith), eq-eqb (code_of f) 28 e)
+  applied_negation e = rw (le-ltb (code_of f) 28 (omega arith), eq-eqb (code_of f) 28 e)
 
-  applied-right : 28 < code_of f → applied words env place f t ≡ kindType (code_of f - 32) (number_of f) t
+  applied_right : 28 < code_of f → applied words env place f t ≡ kind_type (code_of f - 32) (number_of f) t
   unfolding applied
-  applied-right h = rw (le-ltb (code_of f) 28 (omega arith), ne_eqb (code_of f) 28 (λ e. omega arith))
+  applied_right h = rw (le-ltb (code_of f) 28 (omega arith), ne_eqb (code_of f) 28 (λ e. omega arith))
 
 module _ (place f : ℕ) where
-  weight-left : code_of f < 28 → operatorWeight place f ≡ burden true (number_of f)
-  unfolding operatorWeight
-  weight-left h = rw (lt-ltb (code_of f) 28 h)
+  weight_left : code_of f < 28 → operator_weight place f ≡ burden true (number_of f)
+  unfolding operator_weight
+  weight_left h = rw (lt-ltb (code_of f) 28 h)
 
-  weight-right : 28 ≤ code_of f → operatorWeight place f ≡ burden false (number_of f)
-  unfolding operatorWeight
-  weight-right h = rw (le-ltb (code_of f) 28 h)
+  weight_right : 28 ≤ code_of f → operator_weight place f ≡ burden false (number_of f)
+  unfolding operator_weight
+  weight_right h = rw (le-ltb (code_of f) 28 h)
 
 -- the last kind
-highest : (kind : ℕ) → 20 ≤ kind → isKind kind ≡ true → kind ≤ 28
+highest : (kind : ℕ) → 20 ≤ kind → is_kind kind ≡ true → kind ≤ 28
 highest kind low known = leb-true kind 28 (both_right (leb 16 kind) (leb kind 28) (rw (le-leb 1 kind (omega arith), lt-leb kind 10 (omega arith)) at known))
 
 module _ {words : List ℕ} (slots : ℕ) {pile : List ℕ} {w : Judging} (judges : Judges words pile w) where
@@ -56,7 +56,7 @@ module _ {words : List ℕ} (slots : ℕ) {pile : List ℕ} {w : Judging} (judge
   env = types_in slots
 
   abbrev type_at : ℕ → ℕ
-  type_at k = exprType env (exprAt words k)
+  type_at k = expr_type env (expr_at words k)
 
   -- ════ A node is due ════
 
@@ -64,26 +64,26 @@ module _ {words : List ℕ} (slots : ℕ) {pile : List ℕ} {w : Judging} (judge
     here : Placed words (length pile) w.top w.at
     here = judges.due due
 
-    pub dueNode : CheckedNode words (length pile) w.at
-    dueNode = placed-node here judges.table
+    pub due_node : CheckedNode words (length pile) w.at
+    due_node = placed_node here judges.table
 
-    pub leafStep : {t : ℕ} → t ≡ type_at w.at → JudgedOn words slots pile w pile (typeFound t w.top)
+    pub leaf_step : {t : ℕ} → t ≡ type_at w.at → JudgedOn words slots pile w pile (type_found t w.top)
     unfolding judging
-    leafStep e = record { onward = rw due (answered _ judges.piled refl (λ i l. refl) e (heavy-some w.at)); due = λ g. never g }
+    leaf_step e = record { onward = rw due (answered _ judges.piled refl (λ i l. refl) e (heavy_some w.at)); due = λ g. never g }
 
     abbrev kind : ℕ
     kind = kind_at words w.at
 
     abbrev field : ℕ → ℕ
-    field j = nodeWord words w.at j
+    field j = node_word words w.at j
 
     -- the operator goes to work, its first operand is due
     module _ (fits : field 2 < 65536) where
       abbrev work : ℕ
-      work = atWork kind (field 2)
+      work = at_work kind (field 2)
 
       abbrev Opens : Type 0
-      Opens = JudgedOn words slots pile w (set pile w.top work) (nodeDue (field 1) (w.top + 1))
+      Opens = JudgedOn words slots pile w (set pile w.top work) (node_due (field 1) (w.top + 1))
 
       code : code_of work ≡ kind
       code = omega arith
@@ -92,37 +92,37 @@ module _ {words : List ℕ} (slots : ℕ) {pile : List ℕ} {w : Judging} (judge
       number = omega arith
 
       step : field 1 < w.at → Operand words (length pile) w.top work → applied words env w.top work (type_at (field 1)) ≡ type_at w.at
-          → heavy (field 1) + operatorWeight w.top work < heavy w.at → Opens
+          → heavy (field 1) + operator_weight w.top work < heavy w.at → Opens
       unfolding judging
       step below operand same less =
           let h = here in
-          record { onward = rw due (opened _ judges.piled (omega arith) operand same less); due = λ _. placed-part here below }
+          record { onward = rw due (opened _ judges.piled (omega arith) operand same less); due = λ _. placed_part here below }
 
-      twoStep : 20 ≤ kind → kind < 28 → Opens
-      unfolding exprType exprOf
-      twoStep low high =
+      two_step : 20 ≤ kind → kind < 28 → Opens
+      unfolding expr_type expr_of
+      two_step low high =
           let b = (says words w.at).binary low high in
-          let p = holds dueNode b.node in
+          let p = holds due_node b.node in
           step p.0.below
-          (record { waits = λ _. rw number (placed-part here p.1.below); marked = λ l. absurd (omega arith) })
-          (applied-left words env w.top work (type_at (field 1)) (omega arith)
-          ∙ rw (code, number, exprIs dueNode b.node) (sym (b.types (type_at (field 1)) (type_at (field 2)))))
-          (rw (weight-left w.top work (omega arith), number) (heavy-two p.0.below p.1.below))
+          (record { waits = λ _. rw number (placed_part here p.1.below); marked = λ l. absurd (omega arith) })
+          (applied_left words env w.top work (type_at (field 1)) (omega arith)
+          ∙ rw (code, number, expr_is due_node b.node) (sym (b.types (type_at (field 1)) (type_at (field 2)))))
+          (rw (weight_left w.top work (omega arith), number) (heavy_two p.0.below p.1.below))
 
-      oneStep : kind ≡ 28 → Opens
-      unfolding exprType exprOf nodeFor nodes
-      oneStep e =
+      one_step : kind ≡ 28 → Opens
+      unfolding expr_type expr_of node_for nodes
+      one_step e =
           let n = is words w.at e in
-          let p = (holds dueNode n).below in
+          let p = (holds due_node n).below in
           step p
           (record { waits = λ l. absurd (omega arith); marked = λ l. absurd (omega arith) })
-          (applied-negation words env w.top work (type_at (field 1)) (omega arith) ∙ rw (exprIs dueNode n))
-          (rw (weight-right w.top work (omega arith)) (heavy-one (number_of work) p))
+          (applied_negation words env w.top work (type_at (field 1)) (omega arith) ∙ rw (expr_is due_node n))
+          (rw (weight_right w.top work (omega arith)) (heavy_one (number_of work) p))
 
-      pub operatorStep : 20 ≤ kind → Opens
-      operatorStep low =
-          ⊎_elim oneStep (twoStep low)
-          (eq-or-lt_of_le (highest kind low (known-kind words judges.table.literals (sound judges.table) w.at dueNode.there)))
+      pub operator_step : 20 ≤ kind → Opens
+      operator_step low =
+          ⊎_elim one_step (two_step low)
+          (eq-or-lt_of_le (highest kind low (known_kind words judges.table.literals (sound judges.table) w.at due_node.there)))
 
   -- ════ A type was found ════
 
@@ -130,45 +130,45 @@ module _ {words : List ℕ} (slots : ℕ) {pile : List ℕ} {w : Judging} (judge
     abbrev top : ℕ
     top = get_or pile (w.top - 1) 0
 
-    pub onTop : Operand words (length pile) (w.top - 1) top
-    onTop = judges.piled.each (w.top - 1) (omega arith)
+    pub on_top : Operand words (length pile) (w.top - 1) top
+    on_top = judges.piled.each (w.top - 1) (omega arith)
 
     -- the right operand is due, and the operator keeps the left one's type
-    pub leftStep : w.at < 65536 → code_of top < 28
-        → JudgedOn words slots pile w (set pile (w.top - 1) (atWork (code_of top + 32) w.at)) (nodeDue (number_of top) w.top)
+    pub left_step : w.at < 65536 → code_of top < 28
+        → JudgedOn words slots pile w (set pile (w.top - 1) (at_work (code_of top + 32) w.at)) (node_due (number_of top) w.top)
     unfolding judging
-    leftStep fits left =
-        let x : ℕ = atWork (code_of top + 32) w.at in
-        let p = onTop.waits left in
+    left_step fits left =
+        let x : ℕ = at_work (code_of top + 32) w.at in
+        let p = on_top.waits left in
         let c : code_of x - 32 ≡ code_of top = omega arith in
         let n : number_of x ≡ w.at = omega arith in
         record {
           onward = rw found (turned _ judges.piled some
               (record { waits = λ l. absurd (omega arith); marked = λ l. omega arith })
-              (applied-right words env (w.top - 1) x (type_at (number_of top)) (omega arith) ∙ rw (c, n) (sym (applied-left words env (w.top - 1) top w.at left)))
-              (omega (arith, weight-left (w.top - 1) top left, weight-right (w.top - 1) x (omega arith), burden-again (number_of x) (number_of top))));
+              (applied_right words env (w.top - 1) x (type_at (number_of top)) (omega arith) ∙ rw (c, n) (sym (applied_left words env (w.top - 1) top w.at left)))
+              (omega (arith, weight_left (w.top - 1) top left, weight_right (w.top - 1) x (omega arith), burden_again (number_of x) (number_of top))));
           due = λ _. record { there = omega arith; fits = omega arith };
         }
 
     -- the operator's type is found
-    done : {t : ℕ} → 28 ≤ code_of top → t ≡ applied words env (w.top - 1) top w.at → JudgedOn words slots pile w pile (typeFound t (w.top - 1))
+    done : {t : ℕ} → 28 ≤ code_of top → t ≡ applied words env (w.top - 1) top w.at → JudgedOn words slots pile w pile (type_found t (w.top - 1))
     unfolding judging
     done right e = record {
-      onward = rw found (closed _ judges.piled some e (omega (arith, weight-right (w.top - 1) top right, burden-some false (number_of top))));
+      onward = rw found (closed _ judges.piled some e (omega (arith, weight_right (w.top - 1) top right, burden_some false (number_of top))));
       due = λ g. never g;
     }
 
-    pub negationStep : {t : ℕ} → code_of top ≡ 28 → t ≡ negationType w.at → JudgedOn words slots pile w pile (typeFound t (w.top - 1))
-    negationStep e t = done (omega arith) (t ∙ sym (applied-negation words env (w.top - 1) top w.at e))
+    pub negation_step : {t : ℕ} → code_of top ≡ 28 → t ≡ negation_type w.at → JudgedOn words slots pile w pile (type_found t (w.top - 1))
+    negation_step e t = done (omega arith) (t ∙ sym (applied_negation words env (w.top - 1) top w.at e))
 
-    pub rightStep : {t : ℕ} → 28 < code_of top → t ≡ kindType (code_of top - 32) (number_of top) w.at → JudgedOn words slots pile w pile (typeFound t (w.top - 1))
-    rightStep h t = done (omega arith) (t ∙ sym (applied-right words env (w.top - 1) top w.at h))
+    pub right_step : {t : ℕ} → 28 < code_of top → t ≡ kind_type (code_of top - 32) (number_of top) w.at → JudgedOn words slots pile w pile (type_found t (w.top - 1))
+    right_step h t = done (omega arith) (t ∙ sym (applied_right words env (w.top - 1) top w.at h))
 
 -- ════ The whole walk ════
 
 pub starts : {words pile : List ℕ} {k : ℕ} (slots : ℕ) → CheckedNode words (length pile) k
-    → Judges words pile (nodeDue k 0) × (comesTo (applied words (types_in slots)) (judging words slots pile (nodeDue k 0)) ≡ exprType (types_in slots) (exprAt words k))
-unfolding judging comesTo through
+    → Judges words pile (node_due k 0) × (comes_to (applied words (types_in slots)) (judging words slots pile (node_due k 0)) ≡ expr_type (types_in slots) (expr_at words k))
+unfolding judging comes_to through
 starts slots node =
     (record { table = node.table; piled = record { room = omega arith; each = λ i l. absurd (omega arith) }; due = λ _. record { there = omega arith; fits = omega arith } }, refl)
 
@@ -177,6 +177,6 @@ unfolding judging
 goes judges on =
     record { table = judges.table; piled = rw on.onward.long on.onward.piled; due = λ e. rw on.onward.long (on.due e) }
 
-pub ends : (words pile : List ℕ) (slots : ℕ) (w : Judging) → w.due ≡ false → w.top ≡ 0 → w.at ≡ comesTo (applied words (types_in slots)) (judging words slots pile w)
-unfolding judging comesTo through
+pub ends : (words pile : List ℕ) (slots : ℕ) (w : Judging) → w.due ≡ false → w.top ≡ 0 → w.at ≡ comes_to (applied words (types_in slots)) (judging words slots pile w)
+unfolding judging comes_to through
 ends words pile slots w found empty = rw (empty, found)

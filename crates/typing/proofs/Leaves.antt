@@ -10,17 +10,17 @@ use borrow.Author.Tests.{leb-true}
 use Rattle.laws.specs.Tests.{both_right}
 use Rattle.grammar.specs.declared.Operator.{Operator}
 use Rattle.grammar.specs.declared.Operator.TheVariants.{Calculate, Equal, Greater, And, Or}
-use Rattle.grammar.specs.Words.{nodeWord, nodes, nodeFor, inheritedCount, returnedCount, ruleWord}
-use Rattle.grammar.specs.Tree.{Expr, bool, integer, text, slot, binary, negation, exprAt, exprOf, parsingAt, parsingOf, grammarOf, ruleAt}
-use Rattle.grammar.specs.Types.{Env, provided, has, assign, operatorType, exprType, type_of}
+use Rattle.grammar.specs.Words.{node_word, nodes, node_for, inherited_count, returned_count, rule_word}
+use Rattle.grammar.specs.Tree.{Expr, bool, integer, text, slot, binary, negation, expr_at, expr_of, parsing_at, parsing_of, grammar_of, rule_at}
+use Rattle.grammar.specs.Types.{Env, provided, has, assign, operator_type, expr_type, type_of}
 use Rattle.grammar.specs.Form.{is_type}
-use Rattle.grammar.proofs.Records.{rule-right}
-use Rattle.grammar.proofs.Decode.{rule-tree}
+use Rattle.grammar.proofs.Records.{rule_right}
+use Rattle.grammar.proofs.Decode.{rule_tree}
 use Rattle.typing.specs.Checked.{CheckedNode, CheckedKind, CheckedPlaces, CheckedRule}
 use Rattle.typing.specs.Slots.{types_in}
-use Rattle.typing.specs.Places.{argumentsTyped, receivedAll}
-use Rattle.typing.specs.Walk.{hasParts}
-use Rattle.typing.proofs.Walks.{sound, holds, smaller, exprIs, parsingIs}
+use Rattle.typing.specs.Places.{arguments_typed, received_all}
+use Rattle.typing.specs.Walk.{has_parts}
+use Rattle.typing.proofs.Walks.{sound, holds, smaller, expr_is, parsing_is}
 use Rattle.typing.proofs.NodeKinds.{says, is}
 use Rattle.typing.proofs.Numbers.{slot_small}
 
@@ -30,98 +30,98 @@ pub picked : (b : Bool) (t : ℕ) → (b ≡ true → t < 8) → cond b t 0 < 8
 picked true t h = h refl
 picked false t h = omega arith
 
-operator-small : (op : Operator) (s t : ℕ) → operatorType op s t < 8
-unfolding operatorType
-operator-small (Calculate a) s t = picked (eqb s 2 && eqb t 2) 2 (λ _. omega arith)
-operator-small Equal s t = picked (ltb 0 s && eqb s t) 1 (λ _. omega arith)
-operator-small Greater s t = picked (eqb s 2 && eqb t 2) 1 (λ _. omega arith)
-operator-small And s t = picked (eqb s 1 && eqb t 1) 1 (λ _. omega arith)
-operator-small Or s t = picked (eqb s 1 && eqb t 1) 1 (λ _. omega arith)
+operator_small : (op : Operator) (s t : ℕ) → operator_type op s t < 8
+unfolding operator_type
+operator_small (Calculate a) s t = picked (eqb s 2 && eqb t 2) 2 (λ _. omega arith)
+operator_small Equal s t = picked (ltb 0 s && eqb s t) 1 (λ _. omega arith)
+operator_small Greater s t = picked (eqb s 2 && eqb t 2) 1 (λ _. omega arith)
+operator_small And s t = picked (eqb s 1 && eqb t 1) 1 (λ _. omega arith)
+operator_small Or s t = picked (eqb s 1 && eqb t 1) 1 (λ _. omega arith)
 
-pub type-small : (slots : ℕ) (e : Expr) → exprType (types_in slots) e < 8
-unfolding exprType
-type-small slots (bool k b) = omega arith
-type-small slots (integer k z) = omega arith
-type-small slots (text k start len) = omega arith
-type-small slots (slot k s) = slot_small slots s
-type-small slots (binary k op e f) = operator-small op (exprType (types_in slots) e) (exprType (types_in slots) f)
-type-small slots (negation k e) = picked (eqb (exprType (types_in slots) e) 1) 1 (λ _. omega arith)
+pub type_small : (slots : ℕ) (e : Expr) → expr_type (types_in slots) e < 8
+unfolding expr_type
+type_small slots (bool k b) = omega arith
+type_small slots (integer k z) = omega arith
+type_small slots (text k start len) = omega arith
+type_small slots (slot k s) = slot_small slots s
+type_small slots (binary k op e f) = operator_small op (expr_type (types_in slots) e) (expr_type (types_in slots) f)
+type_small slots (negation k e) = picked (eqb (expr_type (types_in slots) e) 1) 1 (λ _. omega arith)
 
-declared-small : (w : ℕ) → is_type w ≡ true → w < 8
-declared-small w e = let h = leb-true w 3 (both_right (leb 1 w) (leb w 3) e) in omega arith
+declared_small : (w : ℕ) → is_type w ≡ true → w < 8
+declared_small w e = let h = leb-true w 3 (both_right (leb 1 w) (leb w 3) e) in omega arith
 
 module _ {words : List ℕ} {r : ℕ} (rule : CheckedRule words r) where
-  pub returned-small : (i : ℕ) → i < returnedCount words r → ruleWord words r (11 + i) < 8
-  returned-small i h =
-      declared-small (ruleWord words r (11 + i)) ((rule-right words rule.table.literals (sound rule.table) r rule.there).returned-type i h)
+  pub returned_small : (i : ℕ) → i < returned_count words r → rule_word words r (11 + i) < 8
+  returned_small i h =
+      declared_small (rule_word words r (11 + i)) ((rule_right words rule.table.literals (sound rule.table) r rule.there).returned_type_lem i h)
 
-  pub inherited-small : (i : ℕ) → i < inheritedCount words r → ruleWord words r (2 + i) < 8
-  inherited-small i h =
-      declared-small (ruleWord words r (2 + i)) ((rule-right words rule.table.literals (sound rule.table) r rule.there).inherited-type i h)
+  pub inherited_small : (i : ℕ) → i < inherited_count words r → rule_word words r (2 + i) < 8
+  inherited_small i h =
+      declared_small (rule_word words r (2 + i)) ((rule_right words rule.table.literals (sound rule.table) r rule.there).inherited_type_lem i h)
 
 -- ════ Expressions that are no operators ════
 
-abbrev typeOfKind : (words : List ℕ) (k : ℕ) → Env → (kind : ℕ) → ℕ
-typeOfKind words k env kind =
-    let field : ℕ → ℕ = nodeWord words k in
-    exprType env (exprOf (exprAt words) k (nodeFor kind (field 1) (field 2) (field 3) (field 4) (field 5) (field 6) (field 7) (field 8) (field 9)))
+abbrev type_of_kind : (words : List ℕ) (k : ℕ) → Env → (kind : ℕ) → ℕ
+type_of_kind words k env kind =
+    let field : ℕ → ℕ = node_word words k in
+    expr_type env (expr_of (expr_at words) k (node_for kind (field 1) (field 2) (field 3) (field 4) (field 5) (field 6) (field 7) (field 8) (field 9)))
 
 module _ {words : List ℕ} {room k kind : ℕ} (node : CheckedKind words room k kind) (env : Env) where
-  pub noOperator : kind < 17 → 1 ≡ exprType env (exprAt words k)
-  noOperator h =
+  pub no_operator : kind < 17 → 1 ≡ expr_type env (expr_at words k)
+  no_operator h =
       let e = node.is in
-      (says words k).bools (omega arith) env (exprAt words) ∙ ap (exprType env) (sym (exprIs node.node refl))
+      (says words k).bools (omega arith) env (expr_at words) ∙ ap (expr_type env) (sym (expr_is node.node refl))
 
   -- the type of what the kind makes of the fields
-  pub type_by : {made : ℕ} → kind ≡ made → typeOfKind words k env made ≡ exprType env (exprAt words k)
-  type_by e = sym (ap (exprType env) (exprIs node.node (is words k (sym node.is ∙ e))))
+  pub type_by : {made : ℕ} → kind ≡ made → type_of_kind words k env made ≡ expr_type env (expr_at words k)
+  type_by e = sym (ap (expr_type env) (expr_is node.node (is words k (sym node.is ∙ e))))
 
 -- ════ Parsing nodes without parsing parts ════
 
-abbrev leavesOf : List ℕ → Env → ℕ → Option Env
-leavesOf words env k = type_of (grammarOf words) env (parsingAt words k)
+abbrev leaves_of : List ℕ → Env → ℕ → Option Env
+leaves_of words env k = type_of (grammar_of words) env (parsing_at words k)
 
 module _ {words : List ℕ} {room k : ℕ} (env : Env) where
-  pub plainLeaves : {kind : ℕ} → CheckedKind words room k kind → hasParts kind ≡ false → (kind ≡ 7 → ⊥) → (kind ≡ 9 → ⊥) → (kind ≡ 10 → ⊥) → some env ≡ leavesOf words env k
-  plainLeaves node =
-      rw node.is (λ a b c d. (says words k).plain a b c d env ∙ ap (type_of (grammarOf words) env) (sym (parsingIs node.node refl)))
+  pub plain_leaves : {kind : ℕ} → CheckedKind words room k kind → has_parts kind ≡ false → (kind ≡ 7 → ⊥) → (kind ≡ 9 → ⊥) → (kind ≡ 10 → ⊥) → some env ≡ leaves_of words env k
+  plain_leaves node =
+      rw node.is (λ a b c d. (says words k).plain a b c d env ∙ ap (type_of (grammar_of words) env) (sym (parsing_is node.node refl)))
 
   module _ (node : CheckedKind words room k 9) where
-    pub updatePart : CheckedNode words room (nodeWord words k 2)
-    unfolding nodeFor nodes
-    updatePart = smaller node.node (holds node.node (is words k (sym node.is))).1.below
+    pub update_part : CheckedNode words room (node_word words k 2)
+    unfolding node_for nodes
+    update_part = smaller node.node (holds node.node (is words k (sym node.is))).1.below
 
-    pub updateLeaves : provided (ltb 0 (exprType env (exprAt words (nodeWord words k 2)))) (assign env (nodeWord words k 1) (exprType env (exprAt words (nodeWord words k 2)))) ≡ leavesOf words env k
-    unfolding type_of parsingOf nodeFor nodes
-    updateLeaves = sym (ap (type_of (grammarOf words) env) (parsingIs node.node (is words k (sym node.is))))
+    pub update_leaves : provided (ltb 0 (expr_type env (expr_at words (node_word words k 2)))) (assign env (node_word words k 1) (expr_type env (expr_at words (node_word words k 2)))) ≡ leaves_of words env k
+    unfolding type_of parsing_of node_for nodes
+    update_leaves = sym (ap (type_of (grammar_of words) env) (parsing_is node.node (is words k (sym node.is))))
 
   module _ (node : CheckedKind words room k 10) where
-    pub constraintPart : CheckedNode words room (nodeWord words k 1)
-    unfolding nodeFor nodes
-    constraintPart = smaller node.node (holds node.node (is words k (sym node.is))).below
+    pub constraint_part : CheckedNode words room (node_word words k 1)
+    unfolding node_for nodes
+    constraint_part = smaller node.node (holds node.node (is words k (sym node.is))).below
 
-    pub constraintLeaves : provided (eqb (exprType env (exprAt words (nodeWord words k 1))) 1) (some env) ≡ leavesOf words env k
-    unfolding type_of parsingOf has nodeFor nodes
-    constraintLeaves = sym (ap (type_of (grammarOf words) env) (parsingIs node.node (is words k (sym node.is))))
+    pub constraint_leaves : provided (eqb (expr_type env (expr_at words (node_word words k 1))) 1) (some env) ≡ leaves_of words env k
+    unfolding type_of parsing_of has node_for nodes
+    constraint_leaves = sym (ap (type_of (grammar_of words) env) (parsing_is node.node (is words k (sym node.is))))
 
-  module _ (node : CheckedKind words room k 7) {r : ℕ} (isRule : r ≡ nodeWord words k 1) where
+  module _ (node : CheckedKind words room k 7) {r : ℕ} (is_rule : r ≡ node_word words k 1) where
     pub callee : CheckedRule words r
-    unfolding nodeFor nodes
+    unfolding node_for nodes
     callee = let h = (holds node.node (is words k (sym node.is))).callee in record { table = node.node.table; there = omega arith }
 
-    pub callArguments : CheckedPlaces words room (inheritedCount words r) (nodeWord words k 2) (nodeWord words k 3) (nodeWord words k 4) (nodeWord words k 5)
-    unfolding nodeFor nodes
-    callArguments =
+    pub call_arguments : CheckedPlaces words room (inherited_count words r) (node_word words k 2) (node_word words k 3) (node_word words k 4) (node_word words k 5)
+    unfolding node_for nodes
+    call_arguments =
         let right = holds node.node (is words k (sym node.is)) in
         let h = node.node.there in
         let f = node.node.fits in
-        rw isRule (record { table = node.node.table; there = λ i l. let p = (right.argument i l).below in (omega arith, omega arith) })
+        rw is_rule (record { table = node.node.table; there = λ i l. let p = (right.argument i l).below in (omega arith, omega arith) })
 
-    called : leavesOf words env k ≡ provided (argumentsTyped words env k r) (receivedAll words env k r)
-    unfolding type_of parsingOf nodeFor nodes argumentsTyped receivedAll ruleAt
+    called : leaves_of words env k ≡ provided (arguments_typed words env k r) (received_all words env k r)
+    unfolding type_of parsing_of node_for nodes arguments_typed received_all rule_at
     called =
-        ap (type_of (grammarOf words) env) (parsingIs node.node (is words k (sym node.is)))
-        ∙ rw (← isRule, rule-tree words r callee.there)
+        ap (type_of (grammar_of words) env) (parsing_is node.node (is words k (sym node.is)))
+        ∙ rw (← is_rule, rule_tree words r callee.there)
 
-    pub callLeaves : {b : Bool} → argumentsTyped words env k r ≡ b → provided b (receivedAll words env k r) ≡ leavesOf words env k
-    callLeaves e = sym (called ∙ rw e)
+    pub call_leaves : {b : Bool} → arguments_typed words env k r ≡ b → provided b (received_all words env k r) ≡ leaves_of words env k
+    call_leaves e = sym (called ∙ rw e)

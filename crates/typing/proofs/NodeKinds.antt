@@ -13,11 +13,11 @@ use Rattle.grammar.specs.declared.Operator.{Operator}
 use Rattle.grammar.specs.declared.Operator.TheVariants.{Calculate, Equal, Greater, And, Or}
 use Rattle.grammar.specs.declared.Node.{Node}
 use Rattle.grammar.specs.declared.Node.TheVariants as N
-use Rattle.grammar.specs.Words.{kind_at, nodeWord, nodes, nodeFor, nodeAt, inheritedCount, returnedCount}
-use Rattle.grammar.specs.Tree.{Expr, exprAt, exprOf, parsingAt, parsingOf, grammarOf}
-use Rattle.grammar.specs.Types.{Env, operatorType, exprType, type_of}
-use Rattle.typing.specs.Expressions.{kindType}
-use Rattle.typing.specs.Walk.{hasParts}
+use Rattle.grammar.specs.Words.{kind_at, node_word, nodes, node_for, node_at, inherited_count, returned_count}
+use Rattle.grammar.specs.Tree.{Expr, expr_at, expr_of, parsing_at, parsing_of, grammar_of}
+use Rattle.grammar.specs.Types.{Env, operator_type, expr_type, type_of}
+use Rattle.typing.specs.Expressions.{kind_type}
+use Rattle.typing.specs.Walk.{has_parts}
 
 -- a node with parsing parts, by its kind and its first two fields
 pub data Parts (a b : ℕ) : ℕ → Node → Type 0 where
@@ -31,44 +31,44 @@ pub data Parts (a b : ℕ) : ℕ → Node → Type 0 where
 pub record Binary (kind a b : ℕ) (n : Node) : Type 0 where
   pub operator : Operator
   pub node : n ≡ N.Binary operator a b
-  pub types : (s t : ℕ) → operatorType operator s t ≡ kindType kind s t
+  pub types : (s t : ℕ) → operator_type operator s t ≡ kind_type kind s t
 
 module _ (words : List ℕ) (k : ℕ) where
   abbrev field : ℕ → ℕ
-  field j = nodeWord words k j
+  field j = node_word words k j
 
   -- a Bool, as an expression
   abbrev Boolean : Node → Type 0
-  Boolean n = (env : Env) (part : ℕ → Expr) → 1 ≡ exprType env (exprOf part k n)
+  Boolean n = (env : Env) (part : ℕ → Expr) → 1 ≡ expr_type env (expr_of part k n)
 
   -- a node that leaves the slots as they are
   abbrev Plain : Node → Type 0
-  Plain n = (env : Env) → some env ≡ type_of (grammarOf words) env (parsingOf (inheritedCount words) (returnedCount words) (exprAt words) (parsingAt words) k n)
+  Plain n = (env : Env) → some env ≡ type_of (grammar_of words) env (parsing_of (inherited_count words) (returned_count words) (expr_at words) (parsing_at words) k n)
 
   -- what the numbers below 17 are as expressions, the operators, the nodes with parsing parts, and all that leave the slots as they are
   pub record Says (kind : ℕ) (m n : Node) : Type 0 where
     pub bools : kind < 17 → Boolean n
     pub binary : 20 ≤ kind → kind < 28 → Binary kind (field 1) (field 2) n
-    pub parts : hasParts kind ≡ true → Parts (field 1) (field 2) kind n
-    pub plain : hasParts kind ≡ false → (kind ≡ 7 → ⊥) → (kind ≡ 9 → ⊥) → (kind ≡ 10 → ⊥) → Plain n
+    pub parts : has_parts kind ≡ true → Parts (field 1) (field 2) kind n
+    pub plain : has_parts kind ≡ false → (kind ≡ 7 → ⊥) → (kind ≡ 9 → ⊥) → (kind ≡ 10 → ⊥) → Plain n
 
   module _ (kind : ℕ) {m n : Node} where
-    composite : kind < 17 → hasParts kind ≡ true → Parts (field 1) (field 2) kind n → Boolean n → Says kind m n
+    composite : kind < 17 → has_parts kind ≡ true → Parts (field 1) (field 2) kind n → Boolean n → Says kind m n
     composite h e p b = record { bools = λ _. b; binary = λ l i. absurd (omega arith); parts = λ _. p; plain = λ f. never (sym f ∙ e) }
 
-    other : kind < 17 → hasParts kind ≡ false → ((kind ≡ 7 → ⊥) → (kind ≡ 9 → ⊥) → (kind ≡ 10 → ⊥) → Plain n) → Boolean n → Says kind m n
+    other : kind < 17 → has_parts kind ≡ false → ((kind ≡ 7 → ⊥) → (kind ≡ 9 → ⊥) → (kind ≡ 10 → ⊥) → Plain n) → Boolean n → Says kind m n
     other h e p b = record { bools = λ _. b; binary = λ l i. absurd (omega arith); parts = λ f. never (sym e ∙ f); plain = λ _. p }
 
-    value : 17 ≤ kind → hasParts kind ≡ false → (20 ≤ kind → kind < 28 → Binary kind (field 1) (field 2) n) → Plain n → Says kind m n
+    value : 17 ≤ kind → has_parts kind ≡ false → (20 ≤ kind → kind < 28 → Binary kind (field 1) (field 2) n) → Plain n → Says kind m n
     value h e b p = record { bools = λ l. absurd (omega arith); binary = b; parts = λ f. never (sym e ∙ f); plain = λ _ _ _ _. p }
 
-    operator : (op : Operator) → 17 ≤ kind → hasParts kind ≡ false → n ≡ N.Binary op (field 1) (field 2) → ((s t : ℕ) → operatorType op s t ≡ kindType kind s t) → Plain n → Says kind m n
+    operator : (op : Operator) → 17 ≤ kind → has_parts kind ≡ false → n ≡ N.Binary op (field 1) (field 2) → ((s t : ℕ) → operator_type op s t ≡ kind_type kind s t) → Plain n → Says kind m n
     operator op h e i t p = value h e (λ _ _. record { operator = op; node = i; types = t }) p
 
   -- a line to a kind, 0 to 28
   lines : Lines Says 0 (nodes (field 1) (field 2) (field 3) (field 4) (field 5) (field 6) (field 7) (field 8) (field 9))
       (nodes (field 1) (field 2) (field 3) (field 4) (field 5) (field 6) (field 7) (field 8) (field 9))
-  unfolding nodes exprType exprOf operatorType kindType type_of parsingOf hasParts
+  unfolding nodes expr_type expr_of operator_type kind_type type_of parsing_of has_parts
   lines =
       other 0 (omega arith) refl (λ _ _ _ env. refl) (λ env part. refl)
       then other 1 (omega arith) refl (λ _ _ _ env. refl) (λ env part. refl)
@@ -103,7 +103,7 @@ module _ (words : List ℕ) (k : ℕ) where
 
   -- past the last line
   unknown : (i : ℕ) → 29 ≤ i → Says i N.Unknown N.Unknown
-  unfolding type_of parsingOf hasParts
+  unfolding type_of parsing_of has_parts
   unknown i h = record {
     bools = λ l. absurd (omega arith);
     binary = λ l m. absurd (omega arith);
@@ -111,11 +111,11 @@ module _ (words : List ℕ) (k : ℕ) where
     plain = λ _ _ _ _ env. refl;
   }
 
-  pub says : Says (kind_at words k) (nodeAt words k) (nodeAt words k)
-  unfolding nodeAt nodeFor nodes
+  pub says : Says (kind_at words k) (node_at words k) (node_at words k)
+  unfolding node_at node_for nodes
   says = line N.Unknown N.Unknown lines unknown (kind_at words k) (kind_at words k) (omega arith)
 
   -- the node that a kind makes of the fields
-  pub is : {kind : ℕ} → kind_at words k ≡ kind → nodeAt words k ≡ nodeFor kind (field 1) (field 2) (field 3) (field 4) (field 5) (field 6) (field 7) (field 8) (field 9)
-  unfolding nodeAt
+  pub is : {kind : ℕ} → kind_at words k ≡ kind → node_at words k ≡ node_for kind (field 1) (field 2) (field 3) (field 4) (field 5) (field 6) (field 7) (field 8) (field 9)
+  unfolding node_at
   is e = rw e

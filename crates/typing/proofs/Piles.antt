@@ -11,6 +11,6 @@ use Rattle.laws.specs.Pile.{Alike}
 pub part_length : (pile : List ℕ) (a : ℕ) → length (take (length pile - a) (drop a pile)) ≡ length pile - a
 part_length pile a = length-take (length pile - a) (drop a pile) ∙ rw (length-drop a pile) (omega arith)
 
-pub part-alike : (pile ys : List ℕ) (a k : ℕ) → a ≤ length pile → Alike a pile (put_mid a k pile ys)
-part-alike pile ys a k h i l =
+pub part_alike : (pile ys : List ℕ) (a k : ℕ) → a ≤ length pile → Alike a pile (put_mid a k pile ys)
+part_alike pile ys a k h i l =
     sym (get_or-take a (put_mid a k pile ys) i 0 l) ∙ ap (λ (xs : List ℕ). get_or xs i 0) (take_put a k pile ys h) ∙ get_or-take a pile i 0 l

@@ -4,13 +4,13 @@ use Rattle.std.proofs.Math.Option.{Option, none, some}
 use Rattle.grammar.specs.Types.{Env}
 
 -- the types of the first k slots
-unfoldable pub slotTypes : (k n : ℕ) → List ℕ
-slotTypes zero n = []
-slotTypes (suc k) n = n % 8 ∷ slotTypes k (n / 8)
+unfoldable pub slot_types : (k n : ℕ) → List ℕ
+slot_types zero n = []
+slot_types (suc k) n = n % 8 ∷ slot_types k (n / 8)
 
 -- the types of a rule's sixteen slots
 unfoldable pub types_in : ℕ → Env
-types_in n = slotTypes 16 n
+types_in n = slot_types 16 n
 
 -- the first number that has no room in sixteen slots
 abbrev pub broken : ℕ

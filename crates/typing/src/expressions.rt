@@ -1,19 +1,19 @@
 // The type of an expression: 1 Bool, 2 Integer, 3 Text; 0 where it has none. A walk without recursion: operators at work stand in a pile that the caller lends.
 ghost use Rattle.std.specs.Prelude.{◌≡◌, true, false, map, suc, ◌<◌, length};
 ghost use Rattle.grammar.specs.declared.Operator.TheVariants.{Equal};
-ghost use Rattle.grammar.specs.Tree.{exprAt, four};
-ghost use Rattle.grammar.specs.Types.{exprType, has, haveAll, ifBoth, operatorType, negationType};
+ghost use Rattle.grammar.specs.Tree.{expr_at, four};
+ghost use Rattle.grammar.specs.Types.{expr_type, has, have_all, if_both, operator_type, negation_type};
 ghost use Rattle.typing.specs.Checked.{CheckedKind, CheckedNode, CheckedPlace, CheckedPlaces};
-ghost use Rattle.typing.specs.Places.{placeTyped};
+ghost use Rattle.typing.specs.Places.{place_typed};
 ghost use Rattle.typing.specs.Slots.{types_in};
-ghost use Rattle.typing.specs.Expressions.{atWork, JudgedOn, Judges, kindType, nodeDue, typeFound};
+ghost use Rattle.typing.specs.Expressions.{at_work, JudgedOn, Judges, kind_type, node_due, type_found};
 
 use crate::slots::slot_type;
 use table::records::{kind_at, node_word};
 
 // Both operands have the type wanted, or there is none.
 fn both(wanted: u16, given: u16, s: u16, t: u16) -> u16
-    ensures { result ≡ ifBoth wanted given s t }
+    ensures { result ≡ if_both wanted given s t }
 {
     if s != wanted {
         return 0;
@@ -23,7 +23,7 @@ fn both(wanted: u16, given: u16, s: u16, t: u16) -> u16
 
 // "equal takes two of one type"
 fn equal_type(s: u16, t: u16) -> u16
-    ensures { result ≡ operatorType Equal s t }
+    ensures { result ≡ operator_type Equal s t }
 {
     if s == 0 {
         return 0;
@@ -33,14 +33,14 @@ fn equal_type(s: u16, t: u16) -> u16
 
 // "not take Bools"
 fn negation_type(t: u16) -> u16
-    ensures { result ≡ negationType t }
+    ensures { result ≡ negation_type t }
 {
     if t == 1 { 1 } else { 0 }
 }
 
 // "Add, subtract, multiply, divide take Integers; greater takes Integers, gives Bool; equal takes two of one type; and, or, not take Bools."
 fn operator_type(kind: u64, s: u16, t: u16) -> u16
-    ensures { result ≡ kindType kind s t }
+    ensures { result ≡ kind_type kind s t }
 {
     if kind < 24 {
         return both(2, 2, s, t);
@@ -57,7 +57,7 @@ fn operator_type(kind: u64, s: u16, t: u16) -> u16
 // The type of node k, which is no operator.
 fn leaf_type(words: &[u16], slots: u64, kind: u16, k: u16) -> u16
     requires { CheckedKind words.now (suc k) k kind × (kind < 20) }
-    ensures { result ≡ exprType (types_in slots) (exprAt words.now k) }
+    ensures { result ≡ expr_type (types_in slots) (expr_at words.now k) }
 {
     match kind {
         17 => 2,
@@ -70,7 +70,7 @@ fn leaf_type(words: &[u16], slots: u64, kind: u16, k: u16) -> u16
 // An operator at work as one number: its kind and its right operand, while the left one is judged; then its kind and 32, and the left one's type.
 fn at_work(code: u64, number: u16) -> u64
     requires { code < 65536 }
-    ensures { result ≡ atWork code number }
+    ensures { result ≡ at_work code number }
 {
     code * 65536 + number as u64
 }
@@ -85,7 +85,7 @@ pub struct Judging {
 
 // Node k is due.
 fn due(k: u16, top: usize) -> Judging
-    ensures { result ≡ nodeDue k top }
+    ensures { result ≡ node_due k top }
 {
     Judging {
         due: true,
@@ -96,7 +96,7 @@ fn due(k: u16, top: usize) -> Judging
 
 // The type t was found.
 fn found(t: u16, top: usize) -> Judging
-    ensures { result ≡ typeFound t top }
+    ensures { result ≡ type_found t top }
 {
     Judging {
         due: false,
@@ -146,7 +146,7 @@ fn apply(words: &[u16], pile: &mut [u64], slots: u64, w: Judging) -> Judging
 // The type of node k. A node below 20 that is no expression stands for a Bool, and no table that passes the check has one here.
 pub(crate) fn expression_type(words: &[u16], pile: &mut [u64], slots: u64, k: u16) -> u16
     requires { CheckedNode words.now (length pile.old) k }
-    ensures { result ≡ exprType (types_in slots) (exprAt words.now k) }
+    ensures { result ≡ expr_type (types_in slots) (expr_at words.now k) }
 {
     let mut w = due(k, 0);
     loop {
@@ -164,7 +164,7 @@ pub(crate) fn expression_type(words: &[u16], pile: &mut [u64], slots: u64, k: u1
 // Has node k the type t? None has the type 0.
 pub(crate) fn has_type(words: &[u16], pile: &mut [u64], slots: u64, k: u16, t: u16) -> bool
     requires { CheckedNode words.now (length pile.old) k }
-    ensures { result ≡ has (types_in slots) (exprAt words.now k) t }
+    ensures { result ≡ has (types_in slots) (expr_at words.now k) t }
 {
     if t == 0 {
         return false;
@@ -175,7 +175,7 @@ pub(crate) fn has_type(words: &[u16], pile: &mut [u64], slots: u64, k: u16, t: u
 // Place i, of which n are in use: if it is one of them, node e has the type t.
 fn place_typed(words: &[u16], pile: &mut [u64], slots: u64, n: u16, i: u16, e: u16, t: u16) -> bool
     requires { CheckedPlace words.now (length pile.old) n i e }
-    ensures { result ≡ placeTyped n i (types_in slots) (exprAt words.now e) t }
+    ensures { result ≡ place_typed n i (types_in slots) (expr_at words.now e) t }
 {
     if n <= i {
         return true;
@@ -199,7 +199,7 @@ pub(crate) fn places_typed(
     w: u16,
 ) -> bool
     requires { CheckedPlaces words.now (length pile.old) n a b c d }
-    ensures { result ≡ haveAll (types_in slots) (map (exprAt words.now) (four n a b c d)) (four n t u v w) }
+    ensures { result ≡ have_all (types_in slots) (map (expr_at words.now) (four n a b c d)) (four n t u v w) }
 {
     if !place_typed(words, pile, slots, n, 0, a, t) {
         return false;

@@ -5,14 +5,14 @@ mod rules;
 mod slots;
 
 ghost use Rattle.std.specs.Prelude.{◌≡◌};
-ghost use Rattle.grammar.specs.Answer.{typeCheck};
+ghost use Rattle.grammar.specs.Answer.{type_check};
 
 use crate::rules::typed_rules;
 use grammar::Verdict;
 
 // Checks go 1, 2, 3, 4, then 5.
 pub fn type_check(words: &[u16], literals: &[u8]) -> Verdict
-    ensures { result ≡ typeCheck words.now literals.now }
+    ensures { result ≡ type_check words.now literals.now }
 {
     let verdict = form::check(words, literals);
     match verdict {

@@ -2,13 +2,13 @@
 ghost use Rattle.std.specs.Prelude.{◌≡◌, true, false, ◌<◌, ◌+◌, ltb, eqb, length};
 ghost use Rattle.std.proofs.Math.Option.{some};
 ghost use Rattle.laws.specs.Same.{same};
-ghost use Rattle.grammar.specs.Words.{nodeWord, returnedCount, ruleWord};
-ghost use Rattle.grammar.specs.Tree.{grammarOf, parsingAt};
+ghost use Rattle.grammar.specs.Words.{node_word, returned_count, rule_word};
+ghost use Rattle.grammar.specs.Tree.{grammar_of, parsing_at};
 ghost use Rattle.grammar.specs.Types.{assign, provided, type_of};
 ghost use Rattle.typing.specs.Checked.{CheckedKind, CheckedNode, CheckedRule};
-ghost use Rattle.typing.specs.Places.{argumentsTyped, receivedAll, receivedOne};
+ghost use Rattle.typing.specs.Places.{arguments_typed, received_all, received_one};
 ghost use Rattle.typing.specs.Slots.{broken, told, types_in};
-ghost use Rattle.typing.specs.Walk.{atWork, firstPart, hasParts, nodeDue, slotsFound, WalkedOn, Walks, workOf};
+ghost use Rattle.typing.specs.Walk.{at_work, first_part, has_parts, node_due, slots_found, WalkedOn, Walks, work_of};
 
 use crate::expressions::{expression_type, places_typed};
 use crate::slots::{BROKEN, assigned};
@@ -37,8 +37,8 @@ fn constrained(slots: u64, t: u16) -> u64
 
 // "Call: arguments have the callee's inherited types."
 fn arguments_typed(words: &[u16], pile: &mut [u64], slots: u64, k: u16, r: u16) -> bool
-    requires { CheckedKind words.now (length pile.old) k 7 × (r ≡ nodeWord words.now k 1) }
-    ensures { result ≡ argumentsTyped words.now (types_in slots) k r }
+    requires { CheckedKind words.now (length pile.old) k 7 × (r ≡ node_word words.now k 1) }
+    ensures { result ≡ arguments_typed words.now (types_in slots) k r }
 {
     let n = inherited_count(words, r);
     if n == 0 {
@@ -58,7 +58,7 @@ fn arguments_typed(words: &[u16], pile: &mut [u64], slots: u64, k: u16, r: u16) 
 // Receiving slot i of the call k of rule r is updated with the returned type.
 fn received(words: &[u16], before: u64, k: u16, r: u16, i: u16) -> u64
     requires { CheckedRule words.now r × (i < 4) }
-    ensures { told result ≡ receivedOne (returnedCount words.now r) i (nodeWord words.now k (6 + i)) (ruleWord words.now r (11 + i)) (told before) }
+    ensures { told result ≡ received_one (returned_count words.now r) i (node_word words.now k (6 + i)) (rule_word words.now r (11 + i)) (told before) }
 {
     if BROKEN <= before {
         return BROKEN;
@@ -74,7 +74,7 @@ fn received(words: &[u16], before: u64, k: u16, r: u16, i: u16) -> u64
 // "receiving slots are updated left to right with its returned types"
 fn all_received(words: &[u16], slots: u64, k: u16, r: u16) -> u64
     requires { CheckedRule words.now r × (slots < broken) }
-    ensures { told result ≡ receivedAll words.now (types_in slots) k r }
+    ensures { told result ≡ received_all words.now (types_in slots) k r }
 {
     let first = received(words, slots, k, r, 0);
     let second = received(words, first, k, r, 1);
@@ -85,7 +85,7 @@ fn all_received(words: &[u16], slots: u64, k: u16, r: u16) -> u64
 // What a call leaves.
 fn called(words: &[u16], pile: &mut [u64], slots: u64, k: u16) -> u64
     requires { CheckedKind words.now (length pile.old) k 7 × (slots < broken) }
-    ensures { told result ≡ type_of (grammarOf words.now) (types_in slots) (parsingAt words.now k) }
+    ensures { told result ≡ type_of (grammar_of words.now) (types_in slots) (parsing_at words.now k) }
 {
     let r = node_word(words, k, 1);
     if !arguments_typed(words, pile, slots, k, r) {
@@ -97,7 +97,7 @@ fn called(words: &[u16], pile: &mut [u64], slots: u64, k: u16) -> u64
 // What an update leaves.
 fn update_leaves(words: &[u16], pile: &mut [u64], slots: u64, k: u16) -> u64
     requires { CheckedKind words.now (length pile.old) k 9 × (slots < broken) }
-    ensures { told result ≡ type_of (grammarOf words.now) (types_in slots) (parsingAt words.now k) }
+    ensures { told result ≡ type_of (grammar_of words.now) (types_in slots) (parsing_at words.now k) }
 {
     let s = node_word(words, k, 1);
     let e = node_word(words, k, 2);
@@ -108,7 +108,7 @@ fn update_leaves(words: &[u16], pile: &mut [u64], slots: u64, k: u16) -> u64
 // What a constraint leaves.
 fn constraint_leaves(words: &[u16], pile: &mut [u64], slots: u64, k: u16) -> u64
     requires { CheckedKind words.now (length pile.old) k 10 × (slots < broken) }
-    ensures { told result ≡ type_of (grammarOf words.now) (types_in slots) (parsingAt words.now k) }
+    ensures { told result ≡ type_of (grammar_of words.now) (types_in slots) (parsing_at words.now k) }
 {
     let e = node_word(words, k, 1);
     let t = expression_type(words, pile, slots, e);
@@ -117,8 +117,8 @@ fn constraint_leaves(words: &[u16], pile: &mut [u64], slots: u64, k: u16) -> u64
 
 // What a node without parsing parts leaves. A node that is no parsing node leaves all as it is; no table that passes the check has one here.
 fn leaf(words: &[u16], pile: &mut [u64], slots: u64, kind: u16, k: u16) -> u64
-    requires { CheckedKind words.now (length pile.old) k kind × (slots < broken) × (hasParts kind ≡ false) }
-    ensures { told result ≡ type_of (grammarOf words.now) (types_in slots) (parsingAt words.now k) }
+    requires { CheckedKind words.now (length pile.old) k kind × (slots < broken) × (has_parts kind ≡ false) }
+    ensures { told result ≡ type_of (grammar_of words.now) (types_in slots) (parsing_at words.now k) }
 {
     match kind {
         7 => called(words, pile, slots, k),
@@ -130,7 +130,7 @@ fn leaf(words: &[u16], pile: &mut [u64], slots: u64, kind: u16, k: u16) -> u64
 
 // Sequence, choice, repeat and not; bind.
 fn has_parts(kind: u16) -> bool
-    ensures { result ≡ hasParts kind }
+    ensures { result ≡ has_parts kind }
 {
     2 < kind && (kind < 7 || kind == 8)
 }
@@ -138,7 +138,7 @@ fn has_parts(kind: u16) -> bool
 // A node at work as one number: what it keeps; a tag, which says what comes of the slots that its part leaves; and a part that waits.
 fn at_work(kept: u64, tag: u64, part: u16) -> u64
     requires { (kept < broken) × (tag < 4) × (part < 4096) }
-    ensures { result ≡ atWork kept tag part }
+    ensures { result ≡ at_work kept tag part }
 {
     kept * 65536 + tag * 4096 + part as u64
 }
@@ -147,7 +147,7 @@ fn at_work(kept: u64, tag: u64, part: u16) -> u64
 // the slots they start from, to compare them or to start from them again; a bind keeps its slot.
 fn work_of(kind: u16, slots: u64, a: u16, b: u16) -> u64
     requires { (slots < broken) × (kind < 5 → b < 4096) }
-    ensures { result ≡ workOf kind slots a b }
+    ensures { result ≡ work_of kind slots a b }
 {
     match kind {
         3 => at_work(0, 0, b),
@@ -159,7 +159,7 @@ fn work_of(kind: u16, slots: u64, a: u16, b: u16) -> u64
 
 // The part that is due first: a bind has its slot before its part.
 fn first_part(kind: u16, a: u16, b: u16) -> u16
-    ensures { result ≡ firstPart kind a b }
+    ensures { result ≡ first_part kind a b }
 {
     if kind == 8 { b } else { a }
 }
@@ -183,7 +183,7 @@ pub struct Walk {
 
 // Node k is due, from these slots.
 fn due(k: u16, top: usize, slots: u64) -> Walk
-    ensures { result ≡ nodeDue k top slots }
+    ensures { result ≡ node_due k top slots }
 {
     Walk {
         due: true,
@@ -195,7 +195,7 @@ fn due(k: u16, top: usize, slots: u64) -> Walk
 
 // These slots were found.
 fn found(slots: u64, top: usize) -> Walk
-    ensures { result ≡ slotsFound slots top }
+    ensures { result ≡ slots_found slots top }
 {
     Walk {
         due: false,
@@ -253,7 +253,7 @@ fn resume(words: &[u16], pile: &mut [u64], w: Walk) -> Walk
 // What node k leaves.
 pub(crate) fn leaves(words: &[u16], pile: &mut [u64], slots: u64, k: u16) -> u64
     requires { CheckedNode words.now (length pile.old) k × (slots < broken) }
-    ensures { told result ≡ type_of (grammarOf words.now) (types_in slots) (parsingAt words.now k) }
+    ensures { told result ≡ type_of (grammar_of words.now) (types_in slots) (parsing_at words.now k) }
 {
     let mut w = due(k, 0, slots);
     loop {

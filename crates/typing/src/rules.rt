@@ -1,11 +1,11 @@
 // The type rules for whole rules.
 ghost use Rattle.std.specs.Prelude.{◌≡◌, ◌+◌, ◌<◌, ◌≤◌, length};
-ghost use Rattle.grammar.specs.Words.{inheritedCount, nodeCount, ruleWord};
-ghost use Rattle.grammar.specs.Tree.{grammarOf, ruleOf};
-ghost use Rattle.grammar.specs.Types.{startEnv, typedRule};
-ghost use Rattle.grammar.specs.Answer.{typeRules};
+ghost use Rattle.grammar.specs.Words.{inherited_count, node_count, rule_word};
+ghost use Rattle.grammar.specs.Tree.{grammar_of, rule_of};
+ghost use Rattle.grammar.specs.Types.{start_env, typed_rule};
+ghost use Rattle.grammar.specs.Answer.{type_rules};
 ghost use Rattle.typing.specs.Checked.{Checked, CheckedRule};
-ghost use Rattle.typing.specs.Places.{inheritedAt, inheritedTypes, returnedTyped};
+ghost use Rattle.typing.specs.Places.{inherited_at, inherited_types, returned_typed};
 ghost use Rattle.typing.specs.Slots.{broken, types_in};
 
 use crate::expressions::places_typed;
@@ -18,7 +18,7 @@ use table::records::{
 
 // The type of slot i as rule r starts: inherited, or unset.
 fn inherited_slot(words: &[u16], r: u16, i: u16) -> u16
-    ensures { result ≡ inheritedAt (inheritedCount words.now r) i (ruleWord words.now r (2 + i)) }
+    ensures { result ≡ inherited_at (inherited_count words.now r) i (rule_word words.now r (2 + i)) }
 {
     if i < inherited_count(words, r) {
         inherited_type(words, r, i)
@@ -30,7 +30,7 @@ fn inherited_slot(words: &[u16], r: u16, i: u16) -> u16
 // "A rule starts with its inherited slots set, others unset."
 fn start_slots(words: &[u16], r: u16) -> u64
     requires { CheckedRule words.now r }
-    ensures { (result < broken) × (types_in result ≡ startEnv (inheritedTypes words.now r)) }
+    ensures { (result < broken) × (types_in result ≡ start_env (inherited_types words.now r)) }
 {
     let a = inherited_slot(words, r, 0);
     let b = inherited_slot(words, r, 1);
@@ -41,8 +41,8 @@ fn start_slots(words: &[u16], r: u16) -> u64
 
 // "after the body each returned node has its declared type"
 fn returned_typed(words: &[u16], pile: &mut [u64], slots: u64, r: u16) -> bool
-    requires { CheckedRule words.now r × (nodeCount words.now ≤ length pile.old) }
-    ensures { result ≡ returnedTyped words.now (types_in slots) r }
+    requires { CheckedRule words.now r × (node_count words.now ≤ length pile.old) }
+    ensures { result ≡ returned_typed words.now (types_in slots) r }
 {
     let n = returned_count(words, r);
     let a = returned_node(words, r, 0);
@@ -58,8 +58,8 @@ fn returned_typed(words: &[u16], pile: &mut [u64], slots: u64, r: u16) -> bool
 
 // Rule r keeps the type rules.
 fn rule_typed(words: &[u16], pile: &mut [u64], r: u16) -> bool
-    requires { CheckedRule words.now r × (nodeCount words.now ≤ length pile.old) }
-    ensures { result ≡ typedRule (grammarOf words.now) (ruleOf (grammarOf words.now) r) }
+    requires { CheckedRule words.now r × (node_count words.now ≤ length pile.old) }
+    ensures { result ≡ typed_rule (grammar_of words.now) (rule_of (grammar_of words.now) r) }
 {
     let start = start_slots(words, r);
     let node = body(words, r);
@@ -72,8 +72,8 @@ fn rule_typed(words: &[u16], pile: &mut [u64], r: u16) -> bool
 
 // "a rule fails the type rules": "smallest such rule"
 fn first_untyped(words: &[u16], pile: &mut [u64]) -> Verdict
-    requires { Checked words.now × (nodeCount words.now ≤ length pile.old) }
-    ensures { result ≡ typeRules words.now }
+    requires { Checked words.now × (node_count words.now ≤ length pile.old) }
+    ensures { result ≡ type_rules words.now }
 {
     let rules = rule_count(words);
     let mut r: u16 = 0;
@@ -89,7 +89,7 @@ fn first_untyped(words: &[u16], pile: &mut [u64]) -> Verdict
 // The pile of all walks is made once: 1,024 places, as many as a table may have nodes.
 pub(crate) fn typed_rules(words: &[u16]) -> Verdict
     requires { Checked words.now }
-    ensures { result ≡ typeRules words.now }
+    ensures { result ≡ type_rules words.now }
 {
     let mut pile = [0u64; 1024];
     first_untyped(words, &mut pile)

@@ -13,12 +13,12 @@ use Rattle.grammar.specs.contracts.Value.{the_type}
 use Rattle.grammar.specs.declared.Span.{Span}
 use Rattle.grammar.specs.declared.Value.{Value}
 use Rattle.grammar.specs.declared.Value.TheVariants as Val
-use Rattle.grammar.specs.Values.{spanBytes, textBytes}
-use Rattle.values.specs.Texts.{into, spanPlace, textPlace}
+use Rattle.grammar.specs.Values.{span_bytes, text_bytes}
+use Rattle.values.specs.Texts.{into, span_place, text_place}
 
 -- these bytes at this place are what `text_bytes` owes
 abbrev pub HandedOut : (message literals : Bor (List ℕ)) → Value → List ℕ → ℕ × ℕ → Type 0
-HandedOut m l v bytes place = (bytes ≡ textBytes m.now l.now v) × (place ≡ textPlace m l v)
+HandedOut m l v bytes place = (bytes ≡ text_bytes m.now l.now v) × (place ≡ text_place m l v)
 
 abbrev cut : Bor (List ℕ) → Span → List ℕ
 cut x s = take (s.start + s.length - s.start) (drop s.start x.now)
@@ -27,29 +27,29 @@ module _ (m l : Bor (List ℕ)) {v : Value} (s : Span) (e : v ≡ Val.Text s) wh
   as_long : s.start + s.length - s.start ≡ s.length
   as_long = omega arith
 
-  pub in-literals : s.literal ≡ true → s.start + s.length ≤ length l.now → HandedOut m l v (cut l s) (into l s.start)
-  unfolding textBytes spanBytes textPlace spanPlace
-  in-literals t h =
+  pub in_literals : s.literal ≡ true → s.start + s.length ≤ length l.now → HandedOut m l v (cut l s) (into l s.start)
+  unfolding text_bytes span_bytes text_place span_place
+  in_literals t h =
       let f = le-leb (s.start + s.length) (length l.now) h in
       (rw (e, t, f, as_long), rw (e, t, f))
 
-  pub in-message : s.literal ≡ false → s.start + s.length ≤ length m.now → HandedOut m l v (cut m s) (into m s.start)
-  unfolding textBytes spanBytes textPlace spanPlace
-  in-message t h =
+  pub in_message : s.literal ≡ false → s.start + s.length ≤ length m.now → HandedOut m l v (cut m s) (into m s.start)
+  unfolding text_bytes span_bytes text_place span_place
+  in_message t h =
       let f = le-leb (s.start + s.length) (length m.now) h in
       (rw (e, t, f, as_long), rw (e, t, f))
 
-  pub past-literals : s.literal ≡ true → length l.now < s.start + s.length → HandedOut m l v [] m.ref_ptr
-  unfolding textBytes spanBytes textPlace spanPlace
-  past-literals t h = let f = lt-leb (s.start + s.length) (length l.now) h in (rw (e, t, f), rw (e, t, f))
+  pub past_literals : s.literal ≡ true → length l.now < s.start + s.length → HandedOut m l v [] m.ref_ptr
+  unfolding text_bytes span_bytes text_place span_place
+  past_literals t h = let f = lt-leb (s.start + s.length) (length l.now) h in (rw (e, t, f), rw (e, t, f))
 
-  pub past-message : s.literal ≡ false → length m.now < s.start + s.length → HandedOut m l v [] m.ref_ptr
-  unfolding textBytes spanBytes textPlace spanPlace
-  past-message t h = let f = lt-leb (s.start + s.length) (length m.now) h in (rw (e, t, f), rw (e, t, f))
+  pub past_message : s.literal ≡ false → length m.now < s.start + s.length → HandedOut m l v [] m.ref_ptr
+  unfolding text_bytes span_bytes text_place span_place
+  past_message t h = let f = lt-leb (s.start + s.length) (length m.now) h in (rw (e, t, f), rw (e, t, f))
 
 -- an absent or other value
 pub no_text : (m l : Bor (List ℕ)) (v : Value) → OneOf (0 ∷ 1 ∷ 2 ∷ []) (tag_of the_type v) → HandedOut m l v [] m.ref_ptr
-unfolding textBytes textPlace
+unfolding text_bytes text_place
 no_text m l Val.Absent h = (refl, refl)
 no_text m l (Val.Bool b) h = (refl, refl)
 no_text m l (Val.Integer n) h = (refl, refl)

@@ -6,7 +6,7 @@ use native.Mathlib.Omega.{arith}
 use lib.ListN.{get_or, set, length, take}
 use Rattle.grammar.specs.declared.Value.{Value}
 use Rattle.grammar.specs.declared.Value.TheVariants as Val
-use Rattle.values.specs.Slots.{value_of, InRange, slots_of, slot_at, withSlot}
+use Rattle.values.specs.Slots.{value_of, InRange, slots_of, slot_at, with_slot}
 use Rattle.values.proofs.Stored.{stored}
 
 -- slot s is what words 2 s and 2 s + 1 stand for
@@ -20,38 +20,38 @@ slot_read (a ∷ b ∷ words) (suc s) h =
     let f : suc (suc (2 * s)) + 1 ≡ suc (suc (2 * s + 1)) = omega arith in
     rw (e, f) (slot_read words s (omega arith))
 
-pub slot-past : (words : List ℕ) (s : ℕ) → length words ≤ 2 * s + 1 → slot_at words s ≡ Val.Absent
+pub slot_past : (words : List ℕ) (s : ℕ) → length words ≤ 2 * s + 1 → slot_at words s ≡ Val.Absent
 unfolding slots_of
-slot-past [] s h = refl
-slot-past (a ∷ []) s h = refl
-slot-past (a ∷ b ∷ words) zero h = absurd (omega arith)
-slot-past (a ∷ b ∷ words) (suc s) h = slot-past words s (omega arith)
+slot_past [] s h = refl
+slot_past (a ∷ []) s h = refl
+slot_past (a ∷ b ∷ words) zero h = absurd (omega arith)
+slot_past (a ∷ b ∷ words) (suc s) h = slot_past words s (omega arith)
 
 -- slot s of the first n is slot s
-pub slot-among-first : (n : ℕ) (words : List ℕ) (s : ℕ) → s < n → slot_at (take (2 * n) words) s ≡ slot_at words s
+pub slot_among_first : (n : ℕ) (words : List ℕ) (s : ℕ) → s < n → slot_at (take (2 * n) words) s ≡ slot_at words s
 unfolding slots_of
-slot-among-first zero words s h = absurd (omega arith)
-slot-among-first (suc n) words s h =
+slot_among_first zero words s h = absurd (omega arith)
+slot_among_first (suc n) words s h =
     let e : 2 * suc n ≡ suc (suc (2 * n)) = omega arith in
-    rw e (two-more (slot-among-first n) words s h)
+    rw e (two_more (slot_among_first n) words s h)
   where
-    two-more : ((words : List ℕ) (s : ℕ) → s < n → slot_at (take (2 * n) words) s ≡ slot_at words s) → (words : List ℕ) (s : ℕ) → s < suc n → slot_at (take (suc (suc (2 * n))) words) s ≡ slot_at words s
-    two-more again [] s h = refl
-    two-more again (a ∷ []) s h = refl
-    two-more again (a ∷ b ∷ words) zero h = refl
-    two-more again (a ∷ b ∷ words) (suc s) h = again words s (omega arith)
+    two_more : ((words : List ℕ) (s : ℕ) → s < n → slot_at (take (2 * n) words) s ≡ slot_at words s) → (words : List ℕ) (s : ℕ) → s < suc n → slot_at (take (suc (suc (2 * n))) words) s ≡ slot_at words s
+    two_more again [] s h = refl
+    two_more again (a ∷ []) s h = refl
+    two_more again (a ∷ b ∷ words) zero h = refl
+    two_more again (a ∷ b ∷ words) (suc s) h = again words s (omega arith)
 
 -- a value's words in the place of a slot's are the value in that slot
-pub slot-written : (words : List ℕ) (s : ℕ) {v : Value} → InRange v → slots_of (withSlot words s v) ≡ set (slots_of words) s v
+pub slot_written : (words : List ℕ) (s : ℕ) {v : Value} → InRange v → slots_of (with_slot words s v) ≡ set (slots_of words) s v
 unfolding slots_of
-slot-written [] s r = refl
-slot-written (a ∷ []) zero r = refl
-slot-written (a ∷ []) (suc s) r =
+slot_written [] s r = refl
+slot_written (a ∷ []) zero r = refl
+slot_written (a ∷ []) (suc s) r =
     let e : 2 * suc s ≡ suc (suc (2 * s)) = omega arith in
     let f : suc (suc (2 * s)) + 1 ≡ suc (suc (2 * s + 1)) = omega arith in
     rw (e, f)
-slot-written (a ∷ b ∷ words) zero r = ap (λ (x : Value). x ∷ slots_of words) (stored r)
-slot-written (a ∷ b ∷ words) (suc s) r =
+slot_written (a ∷ b ∷ words) zero r = ap (λ (x : Value). x ∷ slots_of words) (stored r)
+slot_written (a ∷ b ∷ words) (suc s) r =
     let e : 2 * suc s ≡ suc (suc (2 * s)) = omega arith in
     let f : suc (suc (2 * s)) + 1 ≡ suc (suc (2 * s + 1)) = omega arith in
-    rw (e, f) (ap (λ (x : List Value). value_of a b ∷ x) (slot-written words s r))
+    rw (e, f) (ap (λ (x : List Value). value_of a b ∷ x) (slot_written words s r))

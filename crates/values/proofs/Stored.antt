@@ -6,28 +6,28 @@ use native.Mathlib.Omega.{arith}
 use mir.Val.{Val}
 use Rattle.grammar.specs.declared.Value.{Value}
 use Rattle.grammar.specs.declared.Value.TheVariants as Val
-use Rattle.values.specs.Slots.{tag_of, payloadOf, text_of, value_of, InRange, absent, bool, integer, text}
-use Rattle.values.proofs.Complement.{integer-word}
+use Rattle.values.specs.Slots.{tag_of, payload_of, text_of, value_of, InRange, absent, bool, integer, text}
+use Rattle.values.proofs.Complement.{integer_word}
 
 -- a part's start and length, out of their payload
-text-again : (literal : Bool) (start length : ℕ) → length < 65536 → text_of literal (start * 65536 + length) ≡ Val.Text (record { literal = literal; start = start; length = length })
-text-again literal start length h =
+text_again : (literal : Bool) (start length : ℕ) → length < 65536 → text_of literal (start * 65536 + length) ≡ Val.Text (record { literal = literal; start = start; length = length })
+text_again literal start length h =
     let d : (start * 65536 + length) / 65536 ≡ start = omega arith in
     let r : (start * 65536 + length) % 65536 ≡ length = omega arith in
     rw (d, r)
 
 -- a value's two words stand for it
-pub stored : {v : Value} → InRange v → value_of (tag_of v) (payloadOf v) ≡ v
-unfolding value_of tag_of payloadOf
+pub stored : {v : Value} → InRange v → value_of (tag_of v) (payload_of v) ≡ v
+unfolding value_of tag_of payload_of
 stored absent = refl
 stored (bool true) = refl
 stored (bool false) = refl
-stored (integer {z} f) = ap Val.Integer (integer-word z f)
+stored (integer {z} f) = ap Val.Integer (integer_word z f)
 stored (text {s} p q) = part s.literal s.start s.length q
   where
     part : (literal : Bool) (start length : ℕ) → length < 65536 → value_of (cond literal 4 3) (start * 65536 + length) ≡ Val.Text (record { literal = literal; start = start; length = length })
-    part true start length h = text-again true start length h
-    part false start length h = text-again false start length h
+    part true start length h = text_again true start length h
+    part false start length h = text_again false start length h
 
 -- a tag that has no line
 pub no_line : (tag payload : ℕ) → (tag ≡ 1 → ⊥) → (tag ≡ 2 → ⊥) → (tag ≡ 3 → ⊥) → (tag ≡ 4 → ⊥) → Val.Absent ≡ value_of tag payload

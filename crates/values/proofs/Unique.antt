@@ -7,6 +7,6 @@ use Rattle.grammar.specs.declared.Value.{Value}
 use Rattle.values.proofs.HandedOut.{HandedOut}
 
 -- `text_bytes`: a part is its bytes and its place
-pub text-bytes-unique : (message literals : Bor (List ℕ)) (v : Value) {b₁ b₂ : List ℕ} {p₁ p₂ : ℕ × ℕ}
+pub text_bytes_unique : (message literals : Bor (List ℕ)) (v : Value) {b₁ b₂ : List ℕ} {p₁ p₂ : ℕ × ℕ}
     → HandedOut message literals v b₁ p₁ → HandedOut message literals v b₂ p₂ → (b₁ ≡ b₂) × (p₁ ≡ p₂)
-text-bytes-unique message literals v x y = (x.0 ∙ sym y.0, x.1 ∙ sym y.1)
+text_bytes_unique message literals v x y = (x.0 ∙ sym y.0, x.1 ∙ sym y.1)

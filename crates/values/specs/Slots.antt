@@ -5,7 +5,7 @@ use Rattle.std.proofs.Common.{SFits}
 use Rattle.grammar.specs.declared.Span.{Span}
 use Rattle.grammar.specs.declared.Value.{Value}
 use Rattle.grammar.specs.declared.Value.TheVariants as Val
-use Rattle.values.specs.Words.{word_of, integerOf}
+use Rattle.values.specs.Words.{word_of, integer_of}
 
 -- ════ A value as two words ════
 
@@ -16,11 +16,11 @@ tag_of (Val.Bool b) = 1
 tag_of (Val.Integer z) = 2
 tag_of (Val.Text s) = cond s.literal 4 3
 
-unfoldable pub payloadOf : Value → ℕ
-payloadOf Val.Absent = 0
-payloadOf (Val.Bool b) = cond b 1 0
-payloadOf (Val.Integer z) = word_of z
-payloadOf (Val.Text s) = s.start * 65536 + s.length
+unfoldable pub payload_of : Value → ℕ
+payload_of Val.Absent = 0
+payload_of (Val.Bool b) = cond b 1 0
+payload_of (Val.Integer z) = word_of z
+payload_of (Val.Text s) = s.start * 65536 + s.length
 
 abbrev pub text_of : (literal : Bool) → ℕ → Value
 text_of literal payload = Val.Text (record { literal = literal; start = payload / 65536; length = payload % 65536 })
@@ -30,7 +30,7 @@ abbrev pub values_of : ℕ → List Value
 values_of payload =
     Val.Absent
     ∷ Val.Bool (eqb payload 1)
-    ∷ Val.Integer (integerOf payload)
+    ∷ Val.Integer (integer_of payload)
     ∷ text_of false payload
     ∷ text_of true payload
     ∷ []
@@ -59,5 +59,5 @@ abbrev pub slot_at : List ℕ → ℕ → Value
 slot_at words s = get_or (slots_of words) s Val.Absent
 
 -- the words with a value's two in slot s; a word past the end is none
-abbrev pub withSlot : List ℕ → ℕ → Value → List ℕ
-withSlot words s v = set (set words (2 * s) (tag_of v)) (2 * s + 1) (payloadOf v)
+abbrev pub with_slot : List ℕ → ℕ → Value → List ℕ
+with_slot words s v = set (set words (2 * s) (tag_of v)) (2 * s + 1) (payload_of v)

@@ -7,5 +7,5 @@ word_of (pos n) = n
 word_of (negsuc n) = 4294967295 - n
 
 -- the number of a word: itself, or 4294967296 less than it from 2147483648 on
-unfoldable pub integerOf : ℕ → ℤ
-integerOf word = cond (ltb word 2147483648) (pos word) (negsuc (4294967295 - word))
+unfoldable pub integer_of : ℕ → ℤ
+integer_of word = cond (ltb word 2147483648) (pos word) (negsuc (4294967295 - word))

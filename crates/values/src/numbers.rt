@@ -1,7 +1,7 @@
 // Signed 32-bit arithmetic that says why there is no number.
 ghost use Rattle.std.specs.Prelude.{◌≡◌};
 ghost use Rattle.std.specs.Int.Signed.{lt_z};
-ghost use Rattle.grammar.specs.Values.{fitting, quotient, calculated, sameInteger};
+ghost use Rattle.grammar.specs.Values.{fitting, quotient, calculated, same_integer};
 
 use grammar::{Arithmetic, Fault, Number};
 
@@ -50,7 +50,7 @@ pub fn calculate(op: Arithmetic, a: i32, b: i32) -> Number
 }
 
 pub fn same_integer(a: i32, b: i32) -> bool
-    ensures { result ≡ sameInteger a b }
+    ensures { result ≡ same_integer a b }
 {
     a == b
 }

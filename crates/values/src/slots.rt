@@ -1,6 +1,6 @@
 // Values in a lent area of words: two words a slot, a tag and a payload.
 ghost use Rattle.std.specs.Prelude.{◌≡◌, set};
-ghost use Rattle.values.specs.Slots.{tag_of, payloadOf, text_of, value_of, slot_at, withSlot};
+ghost use Rattle.values.specs.Slots.{tag_of, payload_of, text_of, value_of, slot_at, with_slot};
 
 use grammar::{Span, Value};
 
@@ -16,7 +16,7 @@ pub fn tag_of(value: Value) -> u32
 }
 
 pub fn payload_of(value: Value) -> u32
-    ensures { result ≡ payloadOf value }
+    ensures { result ≡ payload_of value }
 {
     match value {
         Value::Absent => 0,
@@ -70,7 +70,7 @@ pub fn write_word(words: &mut [u32], at: usize, word: u32)
 }
 
 pub fn write_slot(slots: &mut [u32], s: u16, value: Value)
-    ensures { slots.new ≡ withSlot slots.old s value }
+    ensures { slots.new ≡ with_slot slots.old s value }
 {
     let at = 2 * s as usize;
     write_word(slots, at, tag_of(value));

@@ -1,7 +1,7 @@
 // A signed 32-bit number as a word, in two's complement, and back.
 ghost use Rattle.std.specs.Prelude.{◌≡◌};
 ghost use Rattle.grammar.specs.Words.{signed};
-ghost use Rattle.values.specs.Words.{word_of, integerOf};
+ghost use Rattle.values.specs.Words.{word_of, integer_of};
 
 pub fn word_of(z: i32) -> u32
     ensures { result ≡ word_of z }
@@ -14,7 +14,7 @@ pub fn word_of(z: i32) -> u32
 }
 
 pub fn integer_of(word: u32) -> i32
-    ensures { result ≡ integerOf word }
+    ensures { result ≡ integer_of word }
 {
     if word < 2147483648 {
         word as i32

@@ -16,34 +16,34 @@ use Rattle.stages.specs.Stages.{with, staged}
 use Rattle.visits.specs.Visits.{judged, begun}
 
 -- all but Bool
-pub judged-other : (v : Value) (k : ℕ) → OneOf (0 ∷ 2 ∷ 3 ∷ []) (tag_of value.the_type v) → judged v k ≡ S.Stuck k
+pub judged_other : (v : Value) (k : ℕ) → OneOf (0 ∷ 2 ∷ 3 ∷ []) (tag_of value.the_type v) → judged v k ≡ S.Stuck k
 unfolding judged
-judged-other Val.Absent k h = refl
-judged-other (Val.Bool b) k h = absurd (miss (0 ∷ 2 ∷ 3 ∷ []) 1 tt h)
-judged-other (Val.Integer z) k h = refl
-judged-other (Val.Text s) k h = refl
+judged_other Val.Absent k h = refl
+judged_other (Val.Bool b) k h = absurd (miss (0 ∷ 2 ∷ 3 ∷ []) 1 tt h)
+judged_other (Val.Integer z) k h = refl
+judged_other (Val.Text s) k h = refl
 
 -- empty, and what is no parsing node
 abbrev pub leaves : List ℕ
 leaves = 0 ∷ 1 ∷ 11 ∷ 12 ∷ 13 ∷ 14 ∷ 15 ∷ 16 ∷ []
 
 module _ (words literals message : List ℕ) (k : ℕ) (r : Run) (w : List ℕ) where
-  pub begun-other : (n : Node) → OneOf leaves (tag_of node.the_type n) → begun words literals message n k r w ≡ with (staged r S.Matched) w
+  pub begun_other : (n : Node) → OneOf leaves (tag_of node.the_type n) → begun words literals message n k r w ≡ with (staged r S.Matched) w
   unfolding begun
-  begun-other N.Unknown h = refl
-  begun-other N.Empty h = refl
-  begun-other (N.Terminal a) h = absurd (miss leaves 2 tt h)
-  begun-other (N.Sequence a b) h = absurd (miss leaves 3 tt h)
-  begun-other (N.Choice a b) h = absurd (miss leaves 4 tt h)
-  begun-other (N.Repeat a) h = absurd (miss leaves 5 tt h)
-  begun-other (N.Not a) h = absurd (miss leaves 6 tt h)
-  begun-other (N.Call q a b c d s t u v) h = absurd (miss leaves 7 tt h)
-  begun-other (N.Bind s a) h = absurd (miss leaves 8 tt h)
-  begun-other (N.Update s a) h = absurd (miss leaves 9 tt h)
-  begun-other (N.Constraint a) h = absurd (miss leaves 10 tt h)
-  begun-other (N.Bool b) h = refl
-  begun-other (N.Integer z) h = refl
-  begun-other (N.Text start length) h = refl
-  begun-other (N.Slot s) h = refl
-  begun-other (N.Binary op a b) h = refl
-  begun-other (N.Negation a) h = refl
+  begun_other N.Unknown h = refl
+  begun_other N.Empty h = refl
+  begun_other (N.Terminal a) h = absurd (miss leaves 2 tt h)
+  begun_other (N.Sequence a b) h = absurd (miss leaves 3 tt h)
+  begun_other (N.Choice a b) h = absurd (miss leaves 4 tt h)
+  begun_other (N.Repeat a) h = absurd (miss leaves 5 tt h)
+  begun_other (N.Not a) h = absurd (miss leaves 6 tt h)
+  begun_other (N.Call q a b c d s t u v) h = absurd (miss leaves 7 tt h)
+  begun_other (N.Bind s a) h = absurd (miss leaves 8 tt h)
+  begun_other (N.Update s a) h = absurd (miss leaves 9 tt h)
+  begun_other (N.Constraint a) h = absurd (miss leaves 10 tt h)
+  begun_other (N.Bool b) h = refl
+  begun_other (N.Integer z) h = refl
+  begun_other (N.Text start length) h = refl
+  begun_other (N.Slot s) h = refl
+  begun_other (N.Binary op a b) h = refl
+  begun_other (N.Negation a) h = refl

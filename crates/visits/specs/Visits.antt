@@ -4,17 +4,17 @@ use Rattle.grammar.specs.declared.Value.{Value}
 use Rattle.grammar.specs.declared.Value.TheVariants as Val
 use Rattle.grammar.specs.declared.Node.{Node}
 use Rattle.grammar.specs.declared.Node.TheVariants as N
-use Rattle.grammar.specs.Words.{word, ruleWord, inheritedCount, nodeAt}
+use Rattle.grammar.specs.Words.{word, rule_word, inherited_count, node_at}
 use Rattle.grammar.specs.Values.{Evaluated, value, ends}
-use Rattle.grammar.specs.Run.{byteStands, Due, fine, noBudget, tooDeep}
+use Rattle.grammar.specs.Run.{byte_stands, Due, fine, no_budget, too_deep}
 use Rattle.frames.specs.Frames.{written, pushed}
 use Rattle.calls.specs.declared.Given.{Given}
 use Rattle.calls.specs.declared.Given.TheVariants.{Are, Ends}
-use Rattle.calls.specs.Calls.{inherited, evaluated, evaluatedFour}
+use Rattle.calls.specs.Calls.{inherited, evaluated, evaluated_four}
 use Rattle.stages.specs.declared.Stage.{Stage}
 use Rattle.stages.specs.declared.Stage.TheVariants as S
 use Rattle.stages.specs.declared.Run.{Run}
-use Rattle.stages.specs.Stages.{Stepped, with, moved, staged, endedAt}
+use Rattle.stages.specs.Stages.{Stepped, with, moved, staged, ended_at}
 
 -- a visit made is counted
 abbrev pub visited : Run → Run
@@ -30,7 +30,7 @@ consumed false r = staged r S.Failed
 -- 'Update, bind and call set slots at run time without looking at types'
 unfoldable pub updated : Evaluated Value → ℕ → Run → List ℕ → Stepped
 updated (value v) s r w = with (staged r S.Matched) (written w s v)
-updated (ends why j) s r w = with (staged r (endedAt why j)) w
+updated (ends why j) s r w = with (staged r (ended_at why j)) w
 
 -- 'a constraint isn't Bool (the constraint)'
 unfoldable pub judged : Value → ℕ → Stage
@@ -41,7 +41,7 @@ judged (Val.Text s) k = S.Stuck k
 
 unfoldable pub constrained : Evaluated Value → ℕ → Run → Run
 constrained (value v) k r = staged r (judged v k)
-constrained (ends why j) k r = staged r (endedAt why j)
+constrained (ends why j) k r = staged r (ended_at why j)
 
 -- ════ Nodes with parts, and calls ════
 
@@ -52,25 +52,25 @@ opened k part r w = with (moved r (S.Enter part) r.at (r.frames + 1)) (pushed w 
 -- 'A call evaluates its arguments, runs the body in fresh slots'
 unfoldable pub called : Given → (body k : ℕ) → Run → List ℕ → Stepped
 called (Are f) body k r w = with (moved r (S.Enter body) r.at (r.frames + 1)) (inherited f (pushed w r.frames k r.at))
-called (Ends why j) body k r w = with (staged r (endedAt why j)) w
+called (Ends why j) body k r w = with (staged r (ended_at why j)) w
 
 module _ (words literals message : List ℕ) where
   -- the call whose record lies at a place
-  abbrev pub calledAt : (place k : ℕ) → Run → List ℕ → Stepped
-  calledAt place k r w =
+  abbrev pub called_at : (place k : ℕ) → Run → List ℕ → Stepped
+  called_at place k r w =
       let field : ℕ → ℕ = λ j. word words (place + j) in
-      called (evaluatedFour words literals message (inheritedCount words (field 1)) (field 2) (field 3) (field 4) (field 5) w) (ruleWord words (field 1) 0) k r w
+      called (evaluated_four words literals message (inherited_count words (field 1)) (field 2) (field 3) (field 4) (field 5) w) (rule_word words (field 1) 0) k r w
 
   -- the visit of node k. A node that is no parsing node does as an empty one
   unfoldable pub begun : Node → ℕ → Run → List ℕ → Stepped
   begun N.Unknown k r w = with (staged r S.Matched) w
   begun N.Empty k r w = with (staged r S.Matched) w
-  begun (N.Terminal byte) k r w = with (consumed (byteStands message r.at byte && ltb r.at 65535) r) w
+  begun (N.Terminal byte) k r w = with (consumed (byte_stands message r.at byte && ltb r.at 65535) r) w
   begun (N.Sequence a b) k r w = opened k a r w
   begun (N.Choice a b) k r w = opened k a r w
   begun (N.Repeat a) k r w = opened k a r w
   begun (N.Not a) k r w = opened k a r w
-  begun (N.Call q a b c d s t u v) k r w = called (evaluatedFour words literals message (inheritedCount words q) a b c d w) (ruleWord words q 0) k r w
+  begun (N.Call q a b c d s t u v) k r w = called (evaluated_four words literals message (inherited_count words q) a b c d w) (rule_word words q 0) k r w
   begun (N.Bind s a) k r w = opened k a r w
   begun (N.Update s e) k r w = updated (evaluated words literals message e w) s r w
   begun (N.Constraint e) k r w = with (constrained (evaluated words literals message e w) k r) w
@@ -83,6 +83,6 @@ module _ (words literals message : List ℕ) where
 
   -- a visit of node k is due: 'a visit not made isn't counted'. With no budget left the run rests
   unfoldable pub admitted : Due → ℕ → Run → List ℕ → Stepped
-  admitted fine k r w = begun (nodeAt words k) k (visited r) w
-  admitted noBudget k r w = with r w
-  admitted tooDeep k r w = with (staged r (S.Deep k)) w
+  admitted fine k r w = begun (node_at words k) k (visited r) w
+  admitted no_budget k r w = with r w
+  admitted too_deep k r w = with (staged r (S.Deep k)) w

@@ -1,11 +1,11 @@
 // A visit: the budget first, then the depth, and then what the node says.
 ghost use Rattle.std.specs.Prelude.{◌≡◌, ◌&&◌, ◌<◌, ◌+◌, ltb};
-ghost use Rattle.grammar.specs.Words.{nodeAt};
-ghost use Rattle.grammar.specs.Run.{byteStands, due};
-ghost use Rattle.grammar.specs.Answer.{deepestVisit};
+ghost use Rattle.grammar.specs.Words.{node_at};
+ghost use Rattle.grammar.specs.Run.{byte_stands, due};
+ghost use Rattle.grammar.specs.Answer.{deepest_visit};
 ghost use Rattle.expressions.specs.Meant.{meant};
 ghost use Rattle.stages.specs.Stages.{with};
-ghost use Rattle.visits.specs.Visits.{visited, consumed, opened, updated, judged, constrained, called, calledAt, begun, admitted};
+ghost use Rattle.visits.specs.Visits.{visited, consumed, opened, updated, judged, constrained, called, called_at, begun, admitted};
 
 use calls::{Given, evaluate_four, inherit};
 use expressions::Evaluated;
@@ -15,7 +15,7 @@ use table::records::{body, field_in, inherited_count, kind_in, node_place};
 
 // Does the byte stand at a position? Never at 65,535, behind which there is no position: LONG has refused a longer message.
 pub fn byte_stands(message: &[u8], at: u16, byte: u16) -> bool
-    ensures { result ≡ (byteStands message.now at byte && ltb at 65535) }
+    ensures { result ≡ (byte_stands message.now at byte && ltb at 65535) }
 {
     let place = at as usize;
     if message.len() <= place {
@@ -29,7 +29,7 @@ pub fn byte_stands(message: &[u8], at: u16, byte: u16) -> bool
 
 // A terminal matches where its byte stands.
 fn consume(message: &[u8], run: Run, byte: u16) -> Run
-    ensures { result ≡ consumed (byteStands message.now run.at byte && ltb run.at 65535) run }
+    ensures { result ≡ consumed (byte_stands message.now run.at byte && ltb run.at 65535) run }
 {
     let at = run.at;
     if byte_stands(message, at, byte) {
@@ -104,7 +104,7 @@ fn begin_call<'a>(
     work: &mut [u32],
 ) -> Run
     requires { run.frames < 256 }
-    ensures { with result work.new ≡ calledAt words.now literals.now message.now place k run work.old }
+    ensures { with result work.new ≡ called_at words.now literals.now message.now place k run work.old }
 {
     let q = field_in(words, place, 1);
     let given = evaluate_four(
@@ -131,7 +131,7 @@ fn begin<'a>(
     work: &mut [u32],
 ) -> Run
     requires { run.frames < 256 }
-    ensures { with result work.new ≡ begun words.now literals.now message.now (nodeAt words.now k) k run work.old }
+    ensures { with result work.new ≡ begun words.now literals.now message.now (node_at words.now k) k run work.old }
 {
     let place = node_place(words, k);
     // 2 terminal, 3 sequence, 4 choice, 5 repeat, 6 not, 7 call, 8 bind, 9 update, 10 constraint
@@ -188,7 +188,7 @@ pub fn enter<'a>(
     run: Run,
     work: &mut [u32],
 ) -> Run
-    ensures { with result work.new ≡ admitted words.now literals.now message.now (due budget deepestVisit (run.frames + 1) run.visits) k run work.old }
+    ensures { with result work.new ≡ admitted words.now literals.now message.now (due budget deepest_visit (run.frames + 1) run.visits) k run work.old }
 {
     if budget <= run.visits {
         return run;

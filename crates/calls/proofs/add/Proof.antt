@@ -1,6 +1,6 @@
-use Rattle.calls.proofs.Cases.{added-one, added_none}
-use Rattle.calls.specs.Gathering.{addedTo, added}
-use Rattle.frames.specs.Frames.{slotsIn}
+use Rattle.calls.proofs.Cases.{added_one, added_none}
+use Rattle.calls.specs.Gathering.{added_to, added}
+use Rattle.frames.specs.Frames.{slots_in}
 use mathlib.Core.Path.{sym, ap, ◌∙◌}
 use borrow.Author.Rules.{rules}
 use Rattle.calls.proofs.add.Statement.{statement}
@@ -19,8 +19,8 @@ enum_told : tie.Need-enum-told
 enum_told c = search rules
 
 returns : tie.Need-returns
-unfolding slotsIn
-returns c = rw c.before.before.before.before.given.given.1 (c.add-to.ensures ∙ ap (addedTo _ _) c.before.evaluate.ensures ∙ sym (added-one _ _ _ _ c.before.before.if1.true))
+unfolding slots_in
+returns c = rw c.before.before.before.before.given.given.1 (c.add-to.ensures ∙ ap (added_to _ _) c.before.evaluate.ensures ∙ sym (added_one _ _ _ _ c.before.before.if1.true))
 
 returns-2 : tie.Need-returns-2
 returns-2 c = rw c.before.before.given.given.1 (sym (added_none _ _ _ _ c.if1.false))

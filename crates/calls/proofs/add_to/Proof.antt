@@ -1,4 +1,4 @@
-use Rattle.calls.specs.Gathering.{addedTo}
+use Rattle.calls.specs.Gathering.{added_to}
 use Rattle.expressions.specs.Meant.{meant}
 use Rattle.calls.specs.declared.Given.TheVariants.{Are}
 use mathlib.Core.Path.{ap}
@@ -16,11 +16,11 @@ enum-known-result-2 : tie.Need-enum-known-result-2
 enum-known-result-2 c = search rules
 
 returns : tie.Need-returns
-unfolding addedTo meant
+unfolding added_to meant
 returns c = rw c.before.before.result.given.1 (ap Are c.with_value.ensures)
 
 returns-2 : tie.Need-returns-2
-unfolding addedTo meant
+unfolding added_to meant
 returns-2 c = rw c.before.result2.given.1
 
 pub add_to_spec : {M : Type 1} → statement M

@@ -25,8 +25,8 @@ returns : tie.Need-returns
 unfolding inherited
 returns c = cc
 
-pub inherit-spec : {M : Type 1} → statement M
-inherit-spec =
+pub inherit_spec : {M : Type 1} → statement M
+inherit_spec =
     tie.close
     (tie.spec
     clear-slots-requires

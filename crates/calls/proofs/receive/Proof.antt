@@ -1,4 +1,4 @@
-use Rattle.calls.specs.Calls.{receivedAt, received}
+use Rattle.calls.specs.Calls.{received_at, received}
 use Prim.Native.Nat.{ℕ}
 use mathlib.Core.List.{List}
 use mathlib.Core.Path.{ap, ◌∙◌}
@@ -24,10 +24,10 @@ same_length c = search rules
 
 returns : tie.Need-returns
 unfolding received
-returns c = c.before.before.receive-at4.ensures ∙ ap (λ (l : List ℕ). receivedAt 3 c.before.before.before.before.before.before.before.before.before.before.before.before.before.before.before.before.before.args.count c.before.before.before.before.before.before.before.before.before.before.before.before.before.before.before.before.before.args.v c.before.before.before.before.before.before.before.before.before.before.before.before.before.before.before.before.before.args.four.d l) (c.before.before.before.before.before.before.receive-at3.ensures ∙ ap (λ (l : List ℕ). receivedAt 2 c.before.before.before.before.before.before.before.before.before.before.before.before.before.before.before.before.before.args.count c.before.before.before.before.before.before.before.before.before.before.before.before.before.before.before.before.before.args.u c.before.before.before.before.before.before.before.before.before.before.before.before.before.before.before.before.before.args.four.c l) (c.before.before.before.before.before.before.before.before.before.before.receive-at2.ensures ∙ ap (λ (l : List ℕ). receivedAt 1 c.before.before.before.before.before.before.before.before.before.before.before.before.before.before.before.before.before.args.count c.before.before.before.before.before.before.before.before.before.before.before.before.before.before.before.before.before.args.t c.before.before.before.before.before.before.before.before.before.before.before.before.before.before.before.before.before.args.four.b l) c.before.before.before.before.before.before.before.before.before.before.before.before.before.before.receive-at.ensures))
+returns c = c.before.before.receive-at4.ensures ∙ ap (λ (l : List ℕ). received_at 3 c.before.before.before.before.before.before.before.before.before.before.before.before.before.before.before.before.before.args.count c.before.before.before.before.before.before.before.before.before.before.before.before.before.before.before.before.before.args.v c.before.before.before.before.before.before.before.before.before.before.before.before.before.before.before.before.before.args.four.d l) (c.before.before.before.before.before.before.receive-at3.ensures ∙ ap (λ (l : List ℕ). received_at 2 c.before.before.before.before.before.before.before.before.before.before.before.before.before.before.before.before.before.args.count c.before.before.before.before.before.before.before.before.before.before.before.before.before.before.before.before.before.args.u c.before.before.before.before.before.before.before.before.before.before.before.before.before.before.before.before.before.args.four.c l) (c.before.before.before.before.before.before.before.before.before.before.receive-at2.ensures ∙ ap (λ (l : List ℕ). received_at 1 c.before.before.before.before.before.before.before.before.before.before.before.before.before.before.before.before.before.args.count c.before.before.before.before.before.before.before.before.before.before.before.before.before.before.before.before.before.args.t c.before.before.before.before.before.before.before.before.before.before.before.before.before.before.before.before.before.args.four.b l) c.before.before.before.before.before.before.before.before.before.before.before.before.before.before.receive-at.ensures))
 
-pub receive-spec : {M : Type 1} → statement M
-receive-spec =
+pub receive_spec : {M : Type 1} → statement M
+receive_spec =
     tie.close
     (tie.spec
     receive-at-requires

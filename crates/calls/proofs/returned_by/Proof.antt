@@ -1,4 +1,4 @@
-use Rattle.calls.specs.Calls.{returnedBy}
+use Rattle.calls.specs.Calls.{returned_by}
 use borrow.Author.Rules.{rules}
 use Rattle.calls.proofs.returned_by.Statement.{statement}
 use Rattle.calls.proofs.returned_by.Tie as tie
@@ -22,11 +22,11 @@ evaluate-four-requires : tie.Need-evaluate-four-requires
 evaluate-four-requires c κs = search rules
 
 returns : tie.Need-returns
-unfolding returnedBy
+unfolding returned_by
 returns c = cc
 
-pub returned-by-spec : {M : Type 1} → statement M
-returned-by-spec =
+pub returned_by_spec : {M : Type 1} → statement M
+returned_by_spec =
     tie.close
     (tie.spec
     returned-count-requires

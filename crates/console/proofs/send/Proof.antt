@@ -25,7 +25,7 @@ complain-requires c κs = search rules
 returns-2 : tie.Need-returns-2
 returns-2 c = search rules
 
-pub send-spec : {M : Type 1} → statement M
-send-spec =
+pub send_spec : {M : Type 1} → statement M
+send_spec =
     tie.close
     (tie.spec slice-aggregate-write-all write-all-requires returns complain-requires returns-2)

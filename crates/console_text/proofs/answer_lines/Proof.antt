@@ -1,4 +1,4 @@
-use Rattle.console_text.proofs.Responding.{take-length, counted, respond-line, respond-run}
+use Rattle.console_text.proofs.Responding.{take_length, counted, respond_line, respond_run}
 use borrow.Author.Rules.{rules}
 use Rattle.console_text.proofs.answer_lines.Statement.{statement}
 use Rattle.console_text.proofs.answer_lines.Tie as tie
@@ -25,23 +25,23 @@ slice-reshare-prefix-print-run c = (counted _ _ _ _ c.before.before.before.befor
 
 -- src/lib.rt:115:13
 slice-aggregate-print-run : tie.Need-slice-aggregate-print-run
-slice-aggregate-print-run c = take-length _ _ (counted _ _ _ _ c.before.before.before.before.before.before.before.before.before.before.read-request.ensures _ _ _ _ _ c.before.before.mode.given.1).in_words
+slice-aggregate-print-run c = take_length _ _ (counted _ _ _ _ c.before.before.before.before.before.before.before.before.before.before.read-request.ensures _ _ _ _ _ c.before.before.mode.given.1).in_words
 
 -- src/lib.rt:116:13
 slice-reshare-prefix-print-run-2 : tie.Need-slice-reshare-prefix-print-run-2
-slice-reshare-prefix-print-run-2 c = (counted _ _ _ _ c.before.before.before.before.before.before.before.before.before.before.read-request.ensures _ _ _ _ _ c.before.before.mode.given.1).in-literals
+slice-reshare-prefix-print-run-2 c = (counted _ _ _ _ c.before.before.before.before.before.before.before.before.before.before.read-request.ensures _ _ _ _ _ c.before.before.mode.given.1).in_literals
 
 -- src/lib.rt:116:13
 slice-aggregate-print-run-2 : tie.Need-slice-aggregate-print-run-2
-slice-aggregate-print-run-2 c = take-length _ _ (counted _ _ _ _ c.before.before.before.before.before.before.before.before.before.before.before.read-request.ensures _ _ _ _ _ c.before.before.before.mode.given.1).in-literals
+slice-aggregate-print-run-2 c = take_length _ _ (counted _ _ _ _ c.before.before.before.before.before.before.before.before.before.before.before.read-request.ensures _ _ _ _ _ c.before.before.before.mode.given.1).in_literals
 
 -- src/lib.rt:117:13
 slice-reshare-prefix-print-run-3 : tie.Need-slice-reshare-prefix-print-run-3
-slice-reshare-prefix-print-run-3 c = (counted _ _ _ _ c.before.before.before.before.before.before.before.before.before.before.before.read-request.ensures _ _ _ _ _ c.before.before.before.mode.given.1).in-message
+slice-reshare-prefix-print-run-3 c = (counted _ _ _ _ c.before.before.before.before.before.before.before.before.before.before.before.read-request.ensures _ _ _ _ _ c.before.before.before.mode.given.1).in_message
 
 -- src/lib.rt:117:13
 slice-aggregate-print-run-3 : tie.Need-slice-aggregate-print-run-3
-slice-aggregate-print-run-3 c = take-length _ _ (counted _ _ _ _ c.before.before.before.before.before.before.before.before.before.before.before.before.read-request.ensures _ _ _ _ _ c.before.before.before.before.mode.given.1).in-message
+slice-aggregate-print-run-3 c = take_length _ _ (counted _ _ _ _ c.before.before.before.before.before.before.before.before.before.before.before.before.read-request.ensures _ _ _ _ _ c.before.before.before.before.mode.given.1).in_message
 
 -- src/lib.rt:112:48
 print-run-requires : tie.Need-print-run-requires
@@ -65,7 +65,7 @@ same-length-4 c = search rules
 
 -- src/lib.rt:98:1
 returns : tie.Need-returns
-returns c = respond-line _ _ _ _ _ _ c.before.before.before.before.before.before.before.before.before.before.before.before.before.before.before.before.before.before.before.before.before.before.before.requires.1 c.before.before.before.before.before.before.before.before.before.before.before.before.before.before.before.before.before.before.before.before.before.before.before.requires.0 c.before.before.before.before.before.before.before.before.before.before.before.before.before.read-request.ensures _ c.before.before.before.before.before.n.given.1 c.before.before.print-line.ensures
+returns c = respond_line _ _ _ _ _ _ c.before.before.before.before.before.before.before.before.before.before.before.before.before.before.before.before.before.before.before.before.before.before.before.requires.1 c.before.before.before.before.before.before.before.before.before.before.before.before.before.before.before.before.before.before.before.before.before.before.before.requires.0 c.before.before.before.before.before.before.before.before.before.before.before.before.before.read-request.ensures _ c.before.before.before.before.before.n.given.1 c.before.before.print-line.ensures
 
 -- src/lib.rt:98:1
 same-length-5 : tie.Need-same-length-5
@@ -89,10 +89,10 @@ same-length-9 c = search rules
 
 -- src/lib.rt:98:1
 returns-2 : tie.Need-returns-2
-returns-2 c = respond-run _ _ _ _ _ _ c.before.before.before.before.before.before.before.before.before.before.before.before.before.before.before.before.before.before.before.before.before.before.before.before.before.before.before.before.before.requires.1 c.before.before.before.before.before.before.before.before.before.before.before.before.before.before.before.before.before.before.before.before.before.before.before.before.before.before.before.before.before.requires.0 c.before.before.before.before.before.before.before.before.before.before.before.before.before.before.before.before.before.before.before.read-request.ensures _ _ _ _ _ c.before.before.before.before.before.before.before.before.before.before.before.mode.given.1 c.before.before.before.before.print-run.ensures.0 c.before.before.before.before.print-run.ensures.1
+returns-2 c = respond_run _ _ _ _ _ _ c.before.before.before.before.before.before.before.before.before.before.before.before.before.before.before.before.before.before.before.before.before.before.before.before.before.before.before.before.before.requires.1 c.before.before.before.before.before.before.before.before.before.before.before.before.before.before.before.before.before.before.before.before.before.before.before.before.before.before.before.before.before.requires.0 c.before.before.before.before.before.before.before.before.before.before.before.before.before.before.before.before.before.before.before.read-request.ensures _ _ _ _ _ c.before.before.before.before.before.before.before.before.before.before.before.mode.given.1 c.before.before.before.before.print-run.ensures.0 c.before.before.before.before.print-run.ensures.1
 
-pub answer-lines-spec : {M : Type 1} → statement M
-answer-lines-spec =
+pub answer_lines_spec : {M : Type 1} → statement M
+answer_lines_spec =
     tie.close
     (tie.spec
     read-request-requires

@@ -34,5 +34,5 @@ returns-6 : tie.Need-returns-6
 unfolding enough every
 returns-6 c = rw (le-leb 32768 c.before.before.before.before.before.args.message c.before.before.before.before.if1.false, le-leb 11203 c.before.before.before.before.before.args.words c.before.before.before.if2.false, le-leb 4096 c.before.before.before.before.before.args.literals c.before.before.if3.false, le-leb 9760 c.before.before.before.before.before.args.work c.before.if4.false, le-leb 262253 c.before.before.before.before.before.args.output c.if5.false)
 
-pub lent-enough-spec : {M : Type 1} → statement M
-lent-enough-spec = tie.close (tie.spec returns returns-2 returns-3 returns-4 returns-5 returns-6)
+pub lent_enough_spec : {M : Type 1} → statement M
+lent_enough_spec = tie.close (tie.spec returns returns-2 returns-3 returns-4 returns-5 returns-6)

@@ -1,4 +1,4 @@
-use Rattle.exports.specs.Boundary.{withRecord}
+use Rattle.exports.specs.Boundary.{with_record}
 use mathlib.Core.Path.{ap, ◌∙◌}
 use borrow.Author.Rules.{rules}
 use Rattle.exports.proofs.styrmflo_bench.Statement.{statement}
@@ -22,8 +22,8 @@ same-length-2 c = search rules
 
 -- src/lib.rt:31:1
 returns : tie.Need-returns
-returns c = (c.before.before.before.before.before.before.bench.ensures.1, c.before.before.put_record.ensures ∙ ap (withRecord c.before.before.before.before.before.before.before.before.before.before.before.before.before.args.twelve.now) c.before.before.before.before.before.before.bench.ensures.0)
+returns c = (c.before.before.before.before.before.before.bench.ensures.1, c.before.before.put_record.ensures ∙ ap (with_record c.before.before.before.before.before.before.before.before.before.before.before.before.before.args.twelve.now) c.before.before.before.before.before.before.bench.ensures.0)
 
-pub styrmflo-bench-spec : {M : Type 1} → statement M
-styrmflo-bench-spec =
+pub styrmflo_bench_spec : {M : Type 1} → statement M
+styrmflo_bench_spec =
     tie.close (tie.spec bench-requires put-record-requires same_length same-length-2 returns)

@@ -1,4 +1,4 @@
-use Rattle.exports.specs.Boundary.{verdictWord}
+use Rattle.exports.specs.Boundary.{verdict_word}
 use mathlib.Core.Path.{ap, ◌∙◌}
 use borrow.Author.Rules.{rules}
 use Rattle.exports.proofs.styrmflo_check.Statement.{statement}
@@ -14,7 +14,7 @@ verdict-word-requires c κs = search rules
 
 -- src/lib.rt:15:1
 returns : tie.Need-returns
-returns c = c.verdict-word.ensures ∙ ap verdictWord c.before.check.ensures
+returns c = c.verdict-word.ensures ∙ ap verdict_word c.before.check.ensures
 
-pub styrmflo-check-spec : {M : Type 1} → statement M
-styrmflo-check-spec = tie.close (tie.spec check-requires verdict-word-requires returns)
+pub styrmflo_check_spec : {M : Type 1} → statement M
+styrmflo_check_spec = tie.close (tie.spec check-requires verdict-word-requires returns)

@@ -1,4 +1,4 @@
-use Rattle.exports.specs.Boundary.{withReading}
+use Rattle.exports.specs.Boundary.{with_reading}
 use Rattle.listing.specs.Reading.{Filled}
 use mathlib.Core.Path.{ap, ◌∙◌}
 use borrow.Author.Rules.{rules}
@@ -27,9 +27,9 @@ same-length-3 c = search rules
 
 -- src/lib.rt:69:1
 returns : tie.Need-returns
-returns c = (ap (λ (x : Filled). x.words) c.before.before.before.before.before.before.before.before.read.ensures, (ap (λ (x : Filled). x.literals) c.before.before.before.before.before.before.before.before.read.ensures, c.before.before.put-reading.ensures ∙ ap (λ (x : Filled). withReading c.before.before.before.before.before.before.before.before.before.before.before.before.before.before.before.args.answer.now x.answer) c.before.before.before.before.before.before.before.before.read.ensures))
+returns c = (ap (λ (x : Filled). x.words) c.before.before.before.before.before.before.before.before.read.ensures, (ap (λ (x : Filled). x.literals) c.before.before.before.before.before.before.before.before.read.ensures, c.before.before.put-reading.ensures ∙ ap (λ (x : Filled). with_reading c.before.before.before.before.before.before.before.before.before.before.before.before.before.before.before.args.answer.now x.answer) c.before.before.before.before.before.before.before.before.read.ensures))
 
-pub styrmflo-read-spec : {M : Type 1} → statement M
-styrmflo-read-spec =
+pub styrmflo_read_spec : {M : Type 1} → statement M
+styrmflo_read_spec =
     tie.close
     (tie.spec read-requires put-reading-requires same_length same-length-2 same-length-3 returns)

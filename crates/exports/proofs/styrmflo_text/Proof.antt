@@ -1,4 +1,4 @@
-use Rattle.exports.specs.Boundary.{partWord}
+use Rattle.exports.specs.Boundary.{part_word}
 use mathlib.Core.Path.{ap, ◌∙◌}
 use borrow.Author.Rules.{rules}
 use Rattle.exports.proofs.styrmflo_text.Statement.{statement}
@@ -14,7 +14,7 @@ part-word-requires c κs = search rules
 
 -- src/lib.rt:91:1
 returns : tie.Need-returns
-returns c = c.part-word.ensures ∙ ap (partWord c.before.before.args.message c.before.before.args.literals) c.before.value_of_lem.ensures
+returns c = c.part-word.ensures ∙ ap (part_word c.before.before.args.message c.before.before.args.literals) c.before.value_of_lem.ensures
 
-pub styrmflo-text-spec : {M : Type 1} → statement M
-styrmflo-text-spec = tie.close (tie.spec value-of-requires part-word-requires returns)
+pub styrmflo_text_spec : {M : Type 1} → statement M
+styrmflo_text_spec = tie.close (tie.spec value-of-requires part-word-requires returns)

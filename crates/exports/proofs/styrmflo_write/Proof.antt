@@ -1,4 +1,4 @@
-use Rattle.exports.specs.Boundary.{withWriting}
+use Rattle.exports.specs.Boundary.{with_writing}
 use Rattle.listing.specs.Writing.{Written}
 use mathlib.Core.Path.{ap, ◌∙◌}
 use borrow.Author.Rules.{rules}
@@ -23,8 +23,8 @@ same-length-2 c = search rules
 
 -- src/lib.rt:80:1
 returns : tie.Need-returns
-returns c = (ap (λ (x : Written). x.text) c.before.before.before.before.before.before.write.ensures, c.before.before.put-writing.ensures ∙ ap (λ (x : Written). withWriting c.before.before.before.before.before.before.before.before.before.before.before.before.args.answer.now x.answer) c.before.before.before.before.before.before.write.ensures)
+returns c = (ap (λ (x : Written). x.text) c.before.before.before.before.before.before.write.ensures, c.before.before.put-writing.ensures ∙ ap (λ (x : Written). with_writing c.before.before.before.before.before.before.before.before.before.before.before.before.args.answer.now x.answer) c.before.before.before.before.before.before.write.ensures)
 
-pub styrmflo-write-spec : {M : Type 1} → statement M
-styrmflo-write-spec =
+pub styrmflo_write_spec : {M : Type 1} → statement M
+styrmflo_write_spec =
     tie.close (tie.spec write-requires put-writing-requires same_length same-length-2 returns)

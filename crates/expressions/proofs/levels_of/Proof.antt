@@ -12,5 +12,5 @@ returns c = (omega arith, omega arith, omega arith)
 returns-2 : tie.Need-returns-2
 returns-2 c = (omega arith, omega arith, omega arith)
 
-pub levels-of-spec : {M : Type 1} → statement M
-levels-of-spec = tie.close (tie.spec add-result returns returns-2)
+pub levels_of_spec : {M : Type 1} → statement M
+levels_of_spec = tie.close (tie.spec add-result returns returns-2)

@@ -6,35 +6,35 @@ use native.Mathlib.Omega.{arith}
 use borrow.Author.Rules.{rules}
 use borrow.Author.Tests.{not-true, not-false}
 use lib.ListN.{length}
-use Rattle.grammar.specs.Words.{inheritedCount}
+use Rattle.grammar.specs.Words.{inherited_count}
 use Rattle.grammar.specs.declared.Verdict.TheVariants.{Passed, Use, Start}
-use Rattle.grammar.specs.Form.{sizeOk, tableCheck}
+use Rattle.grammar.specs.Form.{size_ok, table_check}
 use Rattle.form.specs.Scan.{Sized}
-use Rattle.form.proofs.Order.{size-passed, at_size, at_field, after-scan}
+use Rattle.form.proofs.Order.{size_passed, at_size, at_field, after_scan}
 use Rattle.form.proofs.check.Statement.{statement}
 use Rattle.form.proofs.check.Tie as tie
 
 -- SIZE passed
 sized : (c : tie.Else1) → Sized c.before.before.before.before.args.words.now
-sized c = size-passed _ _ _ c.before.Size-ok.ensures c.if1.false
+sized c = size_passed _ _ _ c.before.Size-ok.ensures c.if1.false
 
-size : (c : tie.Else1) → sizeOk c.before.before.before.before.args.words.now (length c.before.before.before.before.args.literals.now) ≡ true
+size : (c : tie.Else1) → size_ok c.before.before.before.before.args.words.now (length c.before.before.before.before.args.literals.now) ≡ true
 size c = sym c.before.Size-ok.ensures ∙ not-false _ c.if1.false
 
 -- FIELD passed, and the counts have been looked at
 later : (c : tie.After-first-other)
     → let a = c.before.before.before.before.before.before.before.before.before.before.args in
-    let answer = tableCheck a.words.now a.literals.now in
+    let answer = table_check a.words.now a.literals.now in
     let n = c.before.before.node-count.result in
     let k = c.first-other.result in
-    (k < n → Use k ≡ answer) × (n ≤ k → 0 < inheritedCount a.words.now 0 → Start ≡ answer) × (n ≤ k → inheritedCount a.words.now 0 ≤ 0 → Passed ≡ answer)
+    (k < n → Use k ≡ answer) × (n ≤ k → 0 < inherited_count a.words.now 0 → Start ≡ answer) × (n ≤ k → inherited_count a.words.now 0 ≤ 0 → Passed ≡ answer)
 later c =
     let n = c.before.before.node-count in
     let o = c.before.before.before.before in
     let s = o.before.before in
     let a = s.before.before.before.before.args in
     let few = sized s in
-    after-scan a.words.now a.literals.now (size s) o.first-bad.new.1.0 o.first-bad.result o.first-bad.ensures c.before.before.before.if2.false
+    after_scan a.words.now a.literals.now (size s) o.first-bad.new.1.0 o.first-bad.result o.first-bad.ensures c.before.before.before.if2.false
     n.result c.first-other.result n.ensures (omega arith) c.first-other.ensures
 
 size-ok-requires : tie.Need-size-ok-requires
@@ -76,8 +76,8 @@ returns-4 c = (later c.before.before.before).1 c.before.before.if3.false (omega 
 returns-5 : tie.Need-returns-5
 returns-5 c = (later c.before.before.before).2 c.before.before.if3.false (omega (arith, c.before.inherited-count.ensures))
 
-pub check-spec : {M : Type 1} → statement M
-check-spec =
+pub check_spec : {M : Type 1} → statement M
+check_spec =
     tie.close
     (tie.spec
     size-ok-requires

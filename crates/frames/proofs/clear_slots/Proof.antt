@@ -13,5 +13,5 @@ returns : tie.Need-returns
 unfolding unset
 returns c = cc
 
-pub clear-slots-spec : {M : Type 1} → statement M
-clear-slots-spec = tie.close (tie.spec clear-requires same_length returns)
+pub clear_slots_spec : {M : Type 1} → statement M
+clear_slots_spec = tie.close (tie.spec clear-requires same_length returns)

@@ -1,4 +1,4 @@
-use Rattle.frames.specs.Frames.{fromIn}
+use Rattle.frames.specs.Frames.{from_in}
 use borrow.Author.Rules.{rules}
 use Rattle.frames.proofs.from_in.Statement.{statement}
 use Rattle.frames.proofs.from_in.Tie as tie
@@ -16,8 +16,8 @@ cast-result : tie.Need-overflow-cast-result
 cast-result c = search rules
 
 returns : tie.Need-returns
-unfolding fromIn
+unfolding from_in
 returns c = cc
 
-pub from-in-spec : {M : Type 1} → statement M
-from-in-spec = tie.close (tie.spec start-requires add-get get-requires cast-result returns)
+pub from_in_spec : {M : Type 1} → statement M
+from_in_spec = tie.close (tie.spec start-requires add-get get-requires cast-result returns)

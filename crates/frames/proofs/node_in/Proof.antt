@@ -1,4 +1,4 @@
-use Rattle.frames.specs.Frames.{nodeIn}
+use Rattle.frames.specs.Frames.{node_in}
 use borrow.Author.Rules.{rules}
 use Rattle.frames.proofs.node_in.Statement.{statement}
 use Rattle.frames.proofs.node_in.Tie as tie
@@ -13,8 +13,8 @@ cast-result : tie.Need-overflow-cast-result
 cast-result c = search rules
 
 returns : tie.Need-returns
-unfolding nodeIn
+unfolding node_in
 returns c = cc
 
-pub node-in-spec : {M : Type 1} → statement M
-node-in-spec = tie.close (tie.spec start-requires get-requires cast-result returns)
+pub node_in_spec : {M : Type 1} → statement M
+node_in_spec = tie.close (tie.spec start-requires get-requires cast-result returns)

@@ -1,4 +1,4 @@
-use Rattle.frames.specs.Frames.{phaseIn}
+use Rattle.frames.specs.Frames.{phase_in}
 use borrow.Author.Rules.{rules}
 use Rattle.frames.proofs.phase_in.Statement.{statement}
 use Rattle.frames.proofs.phase_in.Tie as tie
@@ -13,8 +13,8 @@ get-requires : tie.Need-get-requires
 get-requires c κs = search rules
 
 returns : tie.Need-returns
-unfolding phaseIn
+unfolding phase_in
 returns c = cc
 
-pub phase-in-spec : {M : Type 1} → statement M
-phase-in-spec = tie.close (tie.spec start-requires add-get get-requires returns)
+pub phase_in_spec : {M : Type 1} → statement M
+phase_in_spec = tie.close (tie.spec start-requires add-get get-requires returns)

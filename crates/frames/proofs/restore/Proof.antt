@@ -19,5 +19,5 @@ returns : tie.Need-returns
 unfolding restored
 returns c = cc
 
-pub restore-spec : {M : Type 1} → statement M
-restore-spec = tie.close (tie.spec start-requires add-copy copy-requires same_length returns)
+pub restore_spec : {M : Type 1} → statement M
+restore_spec = tie.close (tie.spec start-requires add-copy copy-requires same_length returns)

@@ -25,8 +25,8 @@ returns : tie.Need-returns
 unfolding saved
 returns c = cc
 
-pub save-spec : {M : Type 1} → statement M
-save-spec =
+pub save_spec : {M : Type 1} → statement M
+save_spec =
     tie.close
     (tie.spec
     start-requires

@@ -1,4 +1,4 @@
-use Rattle.frames.specs.Frames.{inSecond}
+use Rattle.frames.specs.Frames.{in_second}
 use borrow.Author.Rules.{rules}
 use Rattle.frames.proofs.second.Statement.{statement}
 use Rattle.frames.proofs.second.Tie as tie
@@ -16,7 +16,7 @@ same_length : tie.Need-same-length
 same_length c = search rules
 
 returns : tie.Need-returns
-unfolding inSecond
+unfolding in_second
 returns c = cc
 
 pub second_spec : {M : Type 1} → statement M

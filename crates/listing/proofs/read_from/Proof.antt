@@ -1,5 +1,5 @@
-use Rattle.listing.proofs.Fills.{fills-wrong, fills-room, fills-room-2, fills-line, fills-done}
-use Rattle.listing.proofs.Whole.{head-found}
+use Rattle.listing.proofs.Fills.{fills_wrong, fills_room, fills_room_2, fills_line, fills_done}
+use Rattle.listing.proofs.Whole.{head_found}
 use native.Mathlib.Omega.{arith}
 use mathlib.Core.Path.{sym, ◌∙◌}
 use borrow.Author.Rules.{rules}
@@ -56,7 +56,7 @@ same_length c = search rules
 
 -- src/lib.rt:62:17
 returns : tie.Need-returns
-returns c = fills-room _ _ _ _ _ c.before.before.before.before.before.before.read_head.ensures _ _ _ _ c.before.before.rules.given.1 c.if1.true
+returns c = fills_room _ _ _ _ _ c.before.before.before.before.before.before.read_head.ensures _ _ _ _ c.before.before.rules.given.1 c.if1.true
 
 -- src/lib.rt:65:17
 same-length-2 : tie.Need-same-length-2
@@ -64,7 +64,7 @@ same-length-2 c = search rules
 
 -- src/lib.rt:65:17
 returns-2 : tie.Need-returns-2
-returns-2 c = fills-room-2 _ _ _ _ _ c.before.before.before.before.before.before.before.read_head.ensures _ _ _ _ c.before.before.before.rules.given.1 c.before.if1.false c.if2.true
+returns-2 c = fills_room_2 _ _ _ _ _ c.before.before.before.before.before.before.before.read_head.ensures _ _ _ _ c.before.before.before.rules.given.1 c.before.if1.false c.if2.true
 
 -- src/lib.rt:72:17
 add-read-body : tie.Need-overflow-add-read-body
@@ -80,7 +80,7 @@ slice-aggregate-read-body c = search rules
 
 -- src/lib.rt:67:19
 read-body-requires : tie.Need-read-body-requires
-read-body-requires c κs = let z = head-found _ _ _ _ _ _ _ (sym c.before.before.before.before.before.before.before.before.read_head.ensures.found-is ∙ c.before.before.before.before.rules.given.1) in (z.rules-most, (z.nodes-most, (omega arith, omega arith)))
+read-body-requires c κs = let z = head_found _ _ _ _ _ _ _ (sym c.before.before.before.before.before.before.before.before.read_head.ensures.found_is ∙ c.before.before.before.before.rules.given.1) in (z.rules_most, (z.nodes_most, (omega arith, omega arith)))
 
 -- src/lib.rt:76:30
 enum-known-n-2 : tie.Need-enum-known-n-2
@@ -100,7 +100,7 @@ add-fill-words c = search rules
 
 -- src/lib.rt:79:21
 fill-words-requires : tie.Need-fill-words-requires
-fill-words-requires c κs = let z = head-found _ _ _ _ _ _ _ (sym c.before.before.before.before.before.before.before.before.before.before.before.before.before.before.before.before.before.before.read_head.ensures.found-is ∙ c.before.before.before.before.before.before.before.before.before.before.before.before.before.before.rules.given.1) in (z.rules-most, (z.nodes-most, (z.literals-most, omega arith)))
+fill-words-requires c κs = let z = head_found _ _ _ _ _ _ _ (sym c.before.before.before.before.before.before.before.before.before.before.before.before.before.before.before.before.before.before.read_head.ensures.found_is ∙ c.before.before.before.before.before.before.before.before.before.before.before.before.before.before.rules.given.1) in (z.rules_most, (z.nodes_most, (z.literals_most, omega arith)))
 
 -- src/lib.rt:45:1
 same-length-3 : tie.Need-same-length-3
@@ -108,7 +108,7 @@ same-length-3 c = search rules
 
 -- src/lib.rt:45:1
 returns-3 : tie.Need-returns-3
-returns-3 c = fills-wrong _ _ _ _ _ c.before.before.before.before.before.read_head.ensures _ c.before.n.given.1
+returns-3 c = fills_wrong _ _ _ _ _ c.before.before.before.before.before.read_head.ensures _ c.before.n.given.1
 
 -- src/lib.rt:45:1
 same-length-4 : tie.Need-same-length-4
@@ -120,7 +120,7 @@ same-length-5 c = search rules
 
 -- src/lib.rt:45:1
 returns-4 : tie.Need-returns-4
-returns-4 c = fills-line _ _ _ _ _ c.before.before.before.before.before.before.before.before.before.before.before.before.before.before.read_head.ensures _ _ _ _ c.before.before.before.before.before.before.before.before.before.before.rules.given.1 c.before.before.before.before.before.before.before.before.if1.false c.before.before.before.before.before.before.before.if2.false c.before.before.before.before.before.read-body.ensures _ c.before.n2.given.1
+returns-4 c = fills_line _ _ _ _ _ c.before.before.before.before.before.before.before.before.before.before.before.before.before.before.read_head.ensures _ _ _ _ c.before.before.before.before.before.before.before.before.before.before.rules.given.1 c.before.before.before.before.before.before.before.before.if1.false c.before.before.before.before.before.before.before.if2.false c.before.before.before.before.before.read-body.ensures _ c.before.n2.given.1
 
 -- src/lib.rt:45:1
 same-length-6 : tie.Need-same-length-6
@@ -132,10 +132,10 @@ same-length-7 c = search rules
 
 -- src/lib.rt:45:1
 returns-5 : tie.Need-returns-5
-returns-5 c = fills-done _ _ _ _ _ c.before.before.before.before.before.before.before.before.before.before.before.before.before.before.before.before.before.before.before.before.before.read_head.ensures _ _ _ _ c.before.before.before.before.before.before.before.before.before.before.before.before.before.before.before.before.before.rules.given.1 c.before.before.before.before.before.before.before.before.before.before.before.before.before.before.before.if1.false c.before.before.before.before.before.before.before.before.before.before.before.before.before.before.if2.false c.before.before.before.before.before.before.before.before.before.before.before.before.read-body.ensures _ c.before.before.before.before.before.before.before.before.enum_told.given.1 c.before.before.before.before.before.before.read-head2.ensures c.before.before.fill-words.ensures
+returns-5 c = fills_done _ _ _ _ _ c.before.before.before.before.before.before.before.before.before.before.before.before.before.before.before.before.before.before.before.before.before.read_head.ensures _ _ _ _ c.before.before.before.before.before.before.before.before.before.before.before.before.before.before.before.before.before.rules.given.1 c.before.before.before.before.before.before.before.before.before.before.before.before.before.before.before.if1.false c.before.before.before.before.before.before.before.before.before.before.before.before.before.before.if2.false c.before.before.before.before.before.before.before.before.before.before.before.before.read-body.ensures _ c.before.before.before.before.before.before.before.before.enum_told.given.1 c.before.before.before.before.before.before.read-head2.ensures c.before.before.fill-words.ensures
 
-pub read-from-spec : {M : Type 1} → statement M
-read-from-spec =
+pub read_from_spec : {M : Type 1} → statement M
+read_from_spec =
     tie.close
     (tie.spec
     slice-relend-prefix-read-head

@@ -1,4 +1,4 @@
-use Rattle.listing.proofs.Writes.{write-size, write-out, write_done}
+use Rattle.listing.proofs.Writes.{write_size, write_out, write_done}
 use borrow.Author.Tests.{not-true, not-false}
 use mathlib.Core.Path.{sym, ◌∙◌}
 use borrow.Author.Rules.{rules}
@@ -11,7 +11,7 @@ size-ok-requires c κs = search rules
 
 -- src/lib.rt:32:9
 returns : tie.Need-returns
-returns c = write-size _ _ _ (sym c.before.Size-ok.ensures ∙ not-true c.before.Size-ok.result c.if1.true)
+returns c = write_size _ _ _ (sym c.before.Size-ok.ensures ∙ not-true c.before.Size-ok.result c.if1.true)
 
 -- src/lib.rt:35:38
 slice-relend-prefix-put-listing : tie.Need-slice-relend-prefix-put-listing
@@ -31,7 +31,7 @@ same_length c = search rules
 
 -- src/lib.rt:37:9
 returns-2 : tie.Need-returns-2
-returns-2 c = write-out _ _ _ (sym c.before.before.before.before.before.before.Size-ok.ensures ∙ not-false c.before.before.before.before.before.before.Size-ok.result c.before.before.before.before.before.if1.false) c.before.before.before.put-listing.ensures c.if2.true
+returns-2 c = write_out _ _ _ (sym c.before.before.before.before.before.before.Size-ok.ensures ∙ not-false c.before.before.before.before.before.before.Size-ok.result c.before.before.before.before.before.if1.false) c.before.before.before.put-listing.ensures c.if2.true
 
 -- src/lib.rt:39:5
 put-listing-requires-2 : tie.Need-put-listing-requires-2

@@ -1,10 +1,10 @@
-use Rattle.returns.proofs.Arms.{failed-rests, failed-top}
+use Rattle.returns.proofs.Arms.{failed_rests, failed_top}
 use borrow.Author.Rules.{rules}
 use Rattle.returns.proofs.back_failed.Statement.{statement}
 use Rattle.returns.proofs.back_failed.Tie as tie
 
 returns : tie.Need-returns
-returns c = cc (failed-rests c.before.before.before.before.before.before.args.words.now c.before.before.before.before.before.before.args.literals.now c.before.before.before.before.before.before.args.message.now c.before.before.before.before.before.before.args.run c.before.before.before.before.before.before.args.work.now c.before.before.before.before.before.before.args.run.frames c.if1.true)
+returns c = cc (failed_rests c.before.before.before.before.before.before.args.words.now c.before.before.before.before.before.before.args.literals.now c.before.before.before.before.before.before.args.message.now c.before.before.before.before.before.before.args.run c.before.before.before.before.before.before.args.work.now c.before.before.before.before.before.before.args.run.frames c.if1.true)
 
 sub-d : tie.Need-overflow-sub-d
 sub-d c = search rules
@@ -19,10 +19,10 @@ same_length : tie.Need-same-length
 same_length c = search rules
 
 returns-2 : tie.Need-returns-2
-returns-2 c = let a = c.before.before.before.before.before.before.before.before.before.before.before.before.before.args in cc (failed-top a.words.now a.literals.now a.message.now a.run a.work.now a.run.frames c.before.before.before.before.before.before.before.if1.false)
+returns-2 c = let a = c.before.before.before.before.before.before.before.before.before.before.before.before.before.args in cc (failed_top a.words.now a.literals.now a.message.now a.run a.work.now a.run.frames c.before.before.before.before.before.before.before.if1.false)
 
-pub back-failed-spec : {M : Type 1} → statement M
-back-failed-spec =
+pub back_failed_spec : {M : Type 1} → statement M
+back_failed_spec =
     tie.close
     (tie.spec
     returns

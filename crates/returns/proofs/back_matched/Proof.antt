@@ -1,10 +1,10 @@
-use Rattle.returns.proofs.Arms.{matched-rests, matched-top}
+use Rattle.returns.proofs.Arms.{matched_rests, matched_top}
 use borrow.Author.Rules.{rules}
 use Rattle.returns.proofs.back_matched.Statement.{statement}
 use Rattle.returns.proofs.back_matched.Tie as tie
 
 returns : tie.Need-returns
-returns c = cc (matched-rests c.before.before.before.before.before.before.args.words.now c.before.before.before.before.before.before.args.literals.now c.before.before.before.before.before.before.args.message.now c.before.before.before.before.before.before.args.run c.before.before.before.before.before.before.args.work.now c.before.before.before.before.before.before.args.run.frames c.if1.true)
+returns c = cc (matched_rests c.before.before.before.before.before.before.args.words.now c.before.before.before.before.before.before.args.literals.now c.before.before.before.before.before.before.args.message.now c.before.before.before.before.before.before.args.run c.before.before.before.before.before.before.args.work.now c.before.before.before.before.before.before.args.run.frames c.if1.true)
 
 sub-d : tie.Need-overflow-sub-d
 sub-d c = search rules
@@ -19,10 +19,10 @@ same_length : tie.Need-same-length
 same_length c = search rules
 
 returns-2 : tie.Need-returns-2
-returns-2 c = let a = c.before.before.before.before.before.before.before.before.before.before.before.before.before.args in cc (matched-top a.words.now a.literals.now a.message.now a.run a.work.now a.run.frames c.before.before.before.before.before.before.before.if1.false)
+returns-2 c = let a = c.before.before.before.before.before.before.before.before.before.before.before.before.before.args in cc (matched_top a.words.now a.literals.now a.message.now a.run a.work.now a.run.frames c.before.before.before.before.before.before.before.if1.false)
 
-pub back-matched-spec : {M : Type 1} → statement M
-back-matched-spec =
+pub back_matched_spec : {M : Type 1} → statement M
+back_matched_spec =
     tie.close
     (tie.spec
     returns

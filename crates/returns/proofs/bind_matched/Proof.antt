@@ -20,8 +20,8 @@ same_length c = search rules
 returns : tie.Need-returns
 returns c = cc
 
-pub bind-matched-spec : {M : Type 1} → statement M
-bind-matched-spec =
+pub bind_matched_spec : {M : Type 1} → statement M
+bind_matched_spec =
     tie.close
     (tie.spec
     from-in-requires

@@ -35,8 +35,8 @@ returns-2 : tie.Need-returns-2
 unfolding returned
 returns-2 c = rw c.before.before.before.given2.given.1 (cc)
 
-pub call-matched-spec : {M : Type 1} → statement M
-call-matched-spec =
+pub call_matched_spec : {M : Type 1} → statement M
+call_matched_spec =
     tie.close
     (tie.spec
     enum-known-given

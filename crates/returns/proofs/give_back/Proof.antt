@@ -1,4 +1,4 @@
-use Rattle.returns.specs.Returns.{givenBack}
+use Rattle.returns.specs.Returns.{given_back}
 use borrow.Author.Rules.{rules}
 use Rattle.returns.proofs.give_back.Statement.{statement}
 use Rattle.returns.proofs.give_back.Tie as tie
@@ -13,8 +13,8 @@ same_length : tie.Need-same-length
 same_length c = search rules
 
 returns : tie.Need-returns
-unfolding givenBack
+unfolding given_back
 returns c = cc
 
-pub give-back-spec : {M : Type 1} → statement M
-give-back-spec = tie.close (tie.spec restore-requires move-to-requires same_length returns)
+pub give_back_spec : {M : Type 1} → statement M
+give_back_spec = tie.close (tie.spec restore-requires move-to-requires same_length returns)

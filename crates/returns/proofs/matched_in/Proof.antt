@@ -1,6 +1,6 @@
 use mathlib.Core.Path.{◌∙◌}
-use Rattle.table.proofs.Decoding.{kind-read}
-use Rattle.returns.proofs.ByKind.{matched-sequence, matched-repeat, matched-not, matched-call, matched-bind, matched-none}
+use Rattle.table.proofs.Decoding.{kind_read}
+use Rattle.returns.proofs.ByKind.{matched_sequence, matched_repeat, matched_not, matched_call, matched_bind, matched_none}
 use borrow.Author.Rules.{rules}
 use Rattle.returns.proofs.matched_in.Statement.{statement}
 use Rattle.returns.proofs.matched_in.Tie as tie
@@ -42,34 +42,34 @@ same_length : tie.Need-same-length
 same_length c = search rules
 
 returns : tie.Need-returns
-returns c = let a = c.before.before.before.before.before.before.before.before.before.before.before.before.args in let kind = kind-read a.words.now a.k c.before.before.before.before.before.before.before.node-place.ensures c.before.before.before.before.before.before.kind-in.ensures in cc (matched-sequence a.words.now a.literals.now a.message.now a.k a.d a.run a.work.now (kind ∙ c.before.before.before.before.before.match.keys1))
+returns c = let a = c.before.before.before.before.before.before.before.before.before.before.before.before.args in let kind = kind_read a.words.now a.k c.before.before.before.before.before.before.before.node-place.ensures c.before.before.before.before.before.before.kind-in.ensures in cc (matched_sequence a.words.now a.literals.now a.message.now a.k a.d a.run a.work.now (kind ∙ c.before.before.before.before.before.match.keys1))
 
 same-length-2 : tie.Need-same-length-2
 same-length-2 c = search rules
 
 returns-2 : tie.Need-returns-2
-returns-2 c = let a = c.before.before.before.before.before.before.before.before.before.before.before.before.args in let kind = kind-read a.words.now a.k c.before.before.before.before.before.before.before.node-place.ensures c.before.before.before.before.before.before.kind-in.ensures in cc (matched-repeat a.words.now a.literals.now a.message.now a.k a.d a.run a.work.now (kind ∙ c.before.before.before.before.before.match.keys2))
+returns-2 c = let a = c.before.before.before.before.before.before.before.before.before.before.before.before.args in let kind = kind_read a.words.now a.k c.before.before.before.before.before.before.before.node-place.ensures c.before.before.before.before.before.before.kind-in.ensures in cc (matched_repeat a.words.now a.literals.now a.message.now a.k a.d a.run a.work.now (kind ∙ c.before.before.before.before.before.match.keys2))
 
 returns-3 : tie.Need-returns-3
-returns-3 c = let a = c.before.before.before.before.before.before.before.before.args in let kind = kind-read a.words.now a.k c.before.before.before.node-place.ensures c.before.before.kind-in.ensures in cc (matched-not a.words.now a.literals.now a.message.now a.k a.d a.run a.work.now (kind ∙ c.before.match.keys3))
+returns-3 c = let a = c.before.before.before.before.before.before.before.before.args in let kind = kind_read a.words.now a.k c.before.before.before.node-place.ensures c.before.before.kind-in.ensures in cc (matched_not a.words.now a.literals.now a.message.now a.k a.d a.run a.work.now (kind ∙ c.before.match.keys3))
 
 same-length-3 : tie.Need-same-length-3
 same-length-3 c = search rules
 
 returns-4 : tie.Need-returns-4
-returns-4 c = let a = c.before.before.before.before.before.before.before.before.before.before.before.args in let kind = kind-read a.words.now a.k c.before.before.before.before.before.before.node-place.ensures c.before.before.before.before.before.kind-in.ensures in cc (matched-call a.words.now a.literals.now a.message.now a.k a.d a.run a.work.now (kind ∙ c.before.before.before.before.match.keys4))
+returns-4 c = let a = c.before.before.before.before.before.before.before.before.before.before.before.args in let kind = kind_read a.words.now a.k c.before.before.before.before.before.before.node-place.ensures c.before.before.before.before.before.kind-in.ensures in cc (matched_call a.words.now a.literals.now a.message.now a.k a.d a.run a.work.now (kind ∙ c.before.before.before.before.match.keys4))
 
 same-length-4 : tie.Need-same-length-4
 same-length-4 c = search rules
 
 returns-5 : tie.Need-returns-5
-returns-5 c = let a = c.before.before.before.before.before.before.before.before.before.before.before.before.args in let kind = kind-read a.words.now a.k c.before.before.before.before.before.before.before.node-place.ensures c.before.before.before.before.before.before.kind-in.ensures in cc (matched-bind a.words.now a.literals.now a.message.now a.k a.d a.run a.work.now (kind ∙ c.before.before.before.before.before.match.keys5))
+returns-5 c = let a = c.before.before.before.before.before.before.before.before.before.before.before.before.args in let kind = kind_read a.words.now a.k c.before.before.before.before.before.before.before.node-place.ensures c.before.before.before.before.before.before.kind-in.ensures in cc (matched_bind a.words.now a.literals.now a.message.now a.k a.d a.run a.work.now (kind ∙ c.before.before.before.before.before.match.keys5))
 
 returns-6 : tie.Need-returns-6
-returns-6 c = let a = c.before.before.before.before.before.before.before.before.args in let kind = kind-read a.words.now a.k c.before.before.before.node-place.ensures c.before.before.kind-in.ensures in let n = c.before.match.rest in cc (matched-none a.words.now a.literals.now a.message.now a.k a.d a.run a.work.now (rw kind n.0.0.0.0.1) (rw kind n.0.0.0.1) (rw kind n.0.0.1) (rw kind n.0.1) (rw kind n.1))
+returns-6 c = let a = c.before.before.before.before.before.before.before.before.args in let kind = kind_read a.words.now a.k c.before.before.before.node-place.ensures c.before.before.kind-in.ensures in let n = c.before.match.rest in cc (matched_none a.words.now a.literals.now a.message.now a.k a.d a.run a.work.now (rw kind n.0.0.0.0.1) (rw kind n.0.0.0.1) (rw kind n.0.0.1) (rw kind n.0.1) (rw kind n.1))
 
-pub matched-in-spec : {M : Type 1} → statement M
-matched-in-spec =
+pub matched_in_spec : {M : Type 1} → statement M
+matched_in_spec =
     tie.close
     (tie.spec
     node-place-requires

@@ -11,5 +11,5 @@ returns c = let e : c.before.args.to - c.before.args.from ≡ 0 = omega arith in
 returns-2 : tie.Need-returns-2
 returns-2 c = search rules
 
-pub message-part-spec : {M : Type 1} → statement M
-message-part-spec = tie.close (tie.spec returns returns-2)
+pub message_part_spec : {M : Type 1} → statement M
+message_part_spec = tie.close (tie.spec returns returns-2)

@@ -14,5 +14,5 @@ same_length c = search rules
 returns : tie.Need-returns
 returns c = cc
 
-pub next-round-spec : {M : Type 1} → statement M
-next-round-spec = tie.close (tie.spec save-requires stay-requires same_length returns)
+pub next_round_spec : {M : Type 1} → statement M
+next_round_spec = tie.close (tie.spec save-requires stay-requires same_length returns)

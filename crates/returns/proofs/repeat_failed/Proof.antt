@@ -17,6 +17,6 @@ same_length c = search rules
 returns : tie.Need-returns
 returns c = cc
 
-pub repeat-failed-spec : {M : Type 1} → statement M
-repeat-failed-spec =
+pub repeat_failed_spec : {M : Type 1} → statement M
+repeat_failed_spec =
     tie.close (tie.spec from-in-requires restore-requires move-to-requires same_length returns)

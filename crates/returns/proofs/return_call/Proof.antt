@@ -32,8 +32,8 @@ same_length c = search rules
 returns : tie.Need-returns
 returns c = cc
 
-pub return-call-spec : {M : Type 1} → statement M
-return-call-spec =
+pub return_call_spec : {M : Type 1} → statement M
+return_call_spec =
     tie.close
     (tie.spec
     field-in-requires

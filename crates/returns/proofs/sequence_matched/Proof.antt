@@ -1,5 +1,5 @@
-use Rattle.returns.proofs.Arms.{sequence-first, sequence-second}
-use Rattle.frames.specs.Frames.{phaseIn}
+use Rattle.returns.proofs.Arms.{sequence_first, sequence_second}
+use Rattle.frames.specs.Frames.{phase_in}
 use mathlib.Core.Path.{sym, ◌∙◌}
 use borrow.Author.Rules.{rules}
 use Rattle.returns.proofs.sequence_matched.Statement.{statement}
@@ -18,7 +18,7 @@ same_length : tie.Need-same-length
 same_length c = search rules
 
 returns : tie.Need-returns
-returns c = cc (sequence-first c.before.before.before.before.before.before.before.before.before.args.b c.before.before.before.before.before.before.before.before.before.args.d c.before.before.before.before.before.before.before.before.before.args.run c.before.before.before.before.before.before.before.before.before.args.work.now (phaseIn c.before.before.before.before.before.before.before.before.before.args.work.now c.before.before.before.before.before.before.before.before.before.args.d) (sym c.before.before.before.before.before.before.phase-in.ensures ∙ c.before.before.before.before.before.if1.true))
+returns c = cc (sequence_first c.before.before.before.before.before.before.before.before.before.args.b c.before.before.before.before.before.before.before.before.before.args.d c.before.before.before.before.before.before.before.before.before.args.run c.before.before.before.before.before.before.before.before.before.args.work.now (phase_in c.before.before.before.before.before.before.before.before.before.args.work.now c.before.before.before.before.before.before.before.before.before.args.d) (sym c.before.before.before.before.before.before.phase-in.ensures ∙ c.before.before.before.before.before.if1.true))
 
 move-to-requires : tie.Need-move-to-requires
 move-to-requires c κs = search rules
@@ -27,10 +27,10 @@ same-length-2 : tie.Need-same-length-2
 same-length-2 c = search rules
 
 returns-2 : tie.Need-returns-2
-returns-2 c = cc (sequence-second c.before.before.before.before.before.args.b c.before.before.before.before.before.args.d c.before.before.before.before.before.args.run c.before.before.before.before.before.args.work.now (phaseIn c.before.before.before.before.before.args.work.now c.before.before.before.before.before.args.d) (λ e. c.before.if1.false (c.before.before.phase-in.ensures ∙ e)))
+returns-2 c = cc (sequence_second c.before.before.before.before.before.args.b c.before.before.before.before.before.args.d c.before.before.before.before.before.args.run c.before.before.before.before.before.args.work.now (phase_in c.before.before.before.before.before.args.work.now c.before.before.before.before.before.args.d) (λ e. c.before.if1.false (c.before.before.phase-in.ensures ∙ e)))
 
-pub sequence-matched-spec : {M : Type 1} → statement M
-sequence-matched-spec =
+pub sequence_matched_spec : {M : Type 1} → statement M
+sequence_matched_spec =
     tie.close
     (tie.spec
     phase-in-requires

@@ -28,7 +28,7 @@ returns : tie.Need-returns
 unfolding check
 returns c = let short : Short c.before.before.before.before.before.before.before.before.before.before.before.args.words.now = λ i. omega (arith, c.before.before.before.before.before.before.before.before.before.before.shared-slice-known.given i) in let e = answers c.before.before.before.before.before.before.before.before.before.before.before.args.words.now c.before.before.before.before.before.before.before.before.before.before.before.args.literals.now c.before.before.before.before.before.before.before.before.before.before.before.args.message.now short Display c.before.before.before.before.before.before.before.before.before.before.before.args.budget c.before.before.before.before.before.before.before.before.before.before.before.args.work.now _ _ _ (cc) c.before.before.finish.ensures in (ap (λ (x : Ran). x.answer) e, ap (λ (x : Ran). x.work) e)
 
-pub display-spec : {M : Type 1} → statement M
-display-spec =
+pub display_spec : {M : Type 1} → statement M
+display_spec =
     tie.close
     (tie.spec type-check-requires limits-requires followed-by-requires finish-requires same_length returns)

@@ -1,4 +1,4 @@
-use Rattle.stages.specs.Stages.{endedAt}
+use Rattle.stages.specs.Stages.{ended_at}
 use borrow.Author.Rules.{rules}
 use Rattle.stages.proofs.ended_at.Statement.{statement}
 use Rattle.stages.proofs.ended_at.Tie as tie
@@ -22,27 +22,27 @@ enum-told-5 : tie.Need-enum-told-5
 enum-told-5 c = search rules
 
 returns : tie.Need-returns
-unfolding endedAt
+unfolding ended_at
 returns c = rw c.enum_told.given.1
 
 returns-2 : tie.Need-returns-2
-unfolding endedAt
+unfolding ended_at
 returns-2 c = rw c.enum-told2.given.1
 
 returns-3 : tie.Need-returns-3
-unfolding endedAt
+unfolding ended_at
 returns-3 c = rw c.enum-told3.given.1
 
 returns-4 : tie.Need-returns-4
-unfolding endedAt
+unfolding ended_at
 returns-4 c = rw (c.before.before.before.why.given.1, c.enum-told4.given.1)
 
 returns-5 : tie.Need-returns-5
-unfolding endedAt
+unfolding ended_at
 returns-5 c = rw (c.before.before.before.why.given.1, c.enum-told5.given.1)
 
-pub ended-at-spec : {M : Type 1} → statement M
-ended-at-spec =
+pub ended_at_spec : {M : Type 1} → statement M
+ended_at_spec =
     tie.close
     (tie.spec
     enum_told

@@ -4,7 +4,7 @@ use lib.ListN.{length, drop, length-set}
 use mathlib.Core.Path.{◌≡◌, sym, ◌∙◌}
 use mathlib.Core.List.{◌++◌}
 use Rattle.text.specs.Written.{decimal}
-use Rattle.text.proofs.Decimals.{digit-none, digit_room, digit-more, digit-first}
+use Rattle.text.proofs.Decimals.{digit_none, digit_room, digit_more, digit_first}
 use Rattle.text.proofs.decimal_in.Statement.{statement}
 use Rattle.text.proofs.decimal_in.Tie as tie
 
@@ -15,7 +15,7 @@ abbrev decreases-loop : tie.decreases-loop
 decreases-loop digits₀ n rest₀ first₀ digits rest first = rest
 
 loop-holds : tie.Need-loop-init invariant-loop decreases-loop
-loop-holds c = (c.requires, omega arith, omega arith, omega arith, digit-none c.args.digits.now c.args.n c.requires, omega arith)
+loop-holds c = (c.requires, omega arith, omega arith, omega arith, digit_none c.args.digits.now c.args.n c.requires, omega arith)
 
 sub-first : tie.Need-overflow-sub-first invariant-loop decreases-loop
 sub-first c = omega (arith, c.before.loop.invariant.1)
@@ -33,7 +33,7 @@ loop-less : tie.Need-loop-smaller invariant-loop decreases-loop
 loop-less c = omega arith
 
 loop-again : tie.Need-loop-preserved invariant-loop decreases-loop
-loop-again c = let i = c.before.loop.invariant in let r = digit_room c.before.loop.first c.before.loop.rest c.loop-test.true i.3 in (length-set c.before.loop.digits _ _ ∙ i.0, r.0, omega (arith, i.2), r.1, digit-more c.before.loop.digits c.before.loop.first c.before.before.args.n c.before.loop.rest i.1 (omega (arith, i.0, i.2)) i.4 c.loop-test.true (omega (arith, i.5)), omega (arith, i.5))
+loop-again c = let i = c.before.loop.invariant in let r = digit_room c.before.loop.first c.before.loop.rest c.loop-test.true i.3 in (length-set c.before.loop.digits _ _ ∙ i.0, r.0, omega (arith, i.2), r.1, digit_more c.before.loop.digits c.before.loop.first c.before.before.args.n c.before.loop.rest i.1 (omega (arith, i.0, i.2)) i.4 c.loop-test.true (omega (arith, i.5)), omega (arith, i.5))
 
 sub-first-2 : tie.Need-overflow-sub-first-2 invariant-loop decreases-loop
 sub-first-2 c = omega (arith, c.before.loop.invariant.1)
@@ -51,10 +51,10 @@ same_length : tie.Need-same-length invariant-loop decreases-loop
 same_length c = length-set c.before.loop.digits _ _ ∙ c.before.loop.invariant.0 ∙ sym c.before.before.requires
 
 returns : tie.Need-returns invariant-loop decreases-loop
-returns c = let i = c.before.loop.invariant in (omega (arith, i.2), digit-first c.before.loop.digits c.before.loop.first c.before.before.args.n c.before.loop.rest i.1 (omega (arith, i.0, i.2)) i.4 (omega (arith, c.loop-test.false)))
+returns c = let i = c.before.loop.invariant in (omega (arith, i.2), digit_first c.before.loop.digits c.before.loop.first c.before.before.args.n c.before.loop.rest i.1 (omega (arith, i.0, i.2)) i.4 (omega (arith, c.loop-test.false)))
 
-pub decimal-in-spec : {M : Type 1} → statement M
-decimal-in-spec =
+pub decimal_in_spec : {M : Type 1} → statement M
+decimal_in_spec =
     tie.close
     (tie.spec
     invariant-loop

@@ -23,5 +23,5 @@ returns-3 : tie.Need-returns-3
 unfolding digit
 returns-3 c = simp (le-ltb _ _ c.before.if1.false, le-ltb _ _ c.if2.false)
 
-pub digit-of-spec : {M : Type 1} → statement M
-digit-of-spec = tie.close (tie.spec returns returns-2 cast-result returns-3)
+pub digit_of_spec : {M : Type 1} → statement M
+digit_of_spec = tie.close (tie.spec returns returns-2 cast-result returns-3)

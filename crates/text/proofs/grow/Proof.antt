@@ -1,4 +1,4 @@
-use Rattle.text.proofs.Decimals.{digit-most}
+use Rattle.text.proofs.Decimals.{digit_most}
 use Rattle.text.specs.Found.{grown}
 use borrow.Author.Tests.{eq-eqb, ne_eqb}
 use native.Mathlib.Omega.{arith}
@@ -21,7 +21,7 @@ digit-of-requires c κs = search rules
 
 -- src/lib.rt:168:5
 add-result : tie.Need-overflow-add-result
-add-result c = omega (arith, c.digit-of.ensures, digit-most c.before.before.args.byte)
+add-result c = omega (arith, c.digit-of.ensures, digit_most c.before.before.args.byte)
 
 -- src/lib.rt:161:1
 returns-2 : tie.Need-returns-2

@@ -1,4 +1,4 @@
-use Rattle.text.specs.Found.{hexValue}
+use Rattle.text.specs.Found.{hex_value}
 use borrow.Author.Tests.{lt-ltb, le-ltb}
 use borrow.Author.Rules.{rules}
 use Rattle.text.proofs.hex_value.Statement.{statement}
@@ -10,12 +10,12 @@ digit-of-requires c κs = search rules
 
 -- src/lib.rt:204:9
 returns : tie.Need-returns
-unfolding hexValue
+unfolding hex_value
 returns c = simp (← c.before.digit-of.ensures, le-ltb _ _ c.if1.true)
 
 -- src/lib.rt:207:9
 returns-2 : tie.Need-returns-2
-unfolding hexValue
+unfolding hex_value
 returns-2 c = simp (← c.before.before.digit-of.ensures, lt-ltb _ _ c.before.if1.false, lt-ltb _ _ c.if2.true)
 
 -- src/lib.rt:209:8
@@ -24,7 +24,7 @@ add-if3 c = search rules
 
 -- src/lib.rt:210:9
 returns-3 : tie.Need-returns-3
-unfolding hexValue
+unfolding hex_value
 returns-3 c = simp (← c.before.before.before.digit-of.ensures, lt-ltb _ _ c.before.before.if1.false, le-ltb _ _ c.before.if2.false, lt-ltb _ _ c.if3.true)
 
 -- src/lib.rt:212:6
@@ -37,11 +37,11 @@ cast-result c = search rules
 
 -- src/lib.rt:199:1
 returns-4 : tie.Need-returns-4
-unfolding hexValue
+unfolding hex_value
 returns-4 c = simp (← c.before.before.before.digit-of.ensures, lt-ltb _ _ c.before.before.if1.false, le-ltb _ _ c.before.if2.false, le-ltb _ _ c.if3.false)
 
-pub hex-value-spec : {M : Type 1} → statement M
-hex-value-spec =
+pub hex_value_spec : {M : Type 1} → statement M
+hex_value_spec =
     tie.close
     (tie.spec
     digit-of-requires

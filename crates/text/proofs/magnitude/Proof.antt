@@ -19,8 +19,8 @@ size_fits : (z : ℤ) → SFits w32 z → nat_abs z < 2 ^ 32
 size_fits (pos n) f = let h = f.sfits in omega arith
 size_fits (negsuc n) f = let h = f.sfits in omega arith
 
-size-fits-64 : (z : ℤ) → SFits w32 z → SFits w64 (pos (nat_abs z))
-size-fits-64 z f = let h = size_fits z f in record { sfits = omega arith }
+size_fits_64 : (z : ℤ) → SFits w32 z → SFits w64 (pos (nat_abs z))
+size_fits_64 z f = let h = size_fits z f in record { sfits = omega arith }
 
 negated : (z : ℤ) → lt_z z (pos 0) ≡ true → pos 0 -ℤ z ≡ pos (nat_abs z)
 negated (pos n) e = absurd (omega (arith, ltb-true n 0 e))
@@ -40,11 +40,11 @@ cast-result : tie.Need-overflow-cast-result
 cast-result c = rw (to_z-of_z c.before.ranges.n) (sfits_widen tt c.before.ranges.n)
 
 sub-result : tie.Need-overflow-sub-result
-sub-result c = rw (turned c) (size-fits-64 c.before.args.n c.before.ranges.n)
+sub-result c = rw (turned c) (size_fits_64 c.before.args.n c.before.ranges.n)
 
 cast-result-2 : tie.Need-overflow-cast-result-2
 cast-result-2 c =
-    rw (turned c, to_z-of_z (size-fits-64 c.before.args.n c.before.ranges.n)) (tt, record { fits = size_fits c.before.args.n c.before.ranges.n })
+    rw (turned c, to_z-of_z (size_fits_64 c.before.args.n c.before.ranges.n)) (tt, record { fits = size_fits c.before.args.n c.before.ranges.n })
 
 cast-result-3 : tie.Need-overflow-cast-result-3
 cast-result-3 c =
@@ -52,11 +52,11 @@ cast-result-3 c =
     rw (to_z-of_z f) (not_negative c.before.args.n (rw (to_z-of_z f) at c.if1.false), record { fits = size_fits c.before.args.n f })
 
 returns : tie.Need-returns
-returns c = rw (turned c, to_z-of_z (size-fits-64 c.before.args.n c.before.ranges.n))
+returns c = rw (turned c, to_z-of_z (size_fits_64 c.before.args.n c.before.ranges.n))
 
 returns-2 : tie.Need-returns-2
 returns-2 c = search rules
 
-pub magnitude-spec : {M : Type 1} → statement M
-magnitude-spec =
+pub magnitude_spec : {M : Type 1} → statement M
+magnitude_spec =
     tie.close (tie.spec cast-result sub-result cast-result-2 cast-result-3 returns returns-2)

@@ -10,7 +10,7 @@ next-place-requires c κs = search rules
 
 -- src/lib.rt:52:9
 returns : tie.Need-returns
-returns c = record { next-is = c.next_place.ensures; stored = sym (set_out _ _ _ c.before.if1.true) }
+returns c = record { next_is = c.next_place.ensures; stored = sym (set_out _ _ _ c.before.if1.true) }
 
 -- src/lib.rt:54:5
 slice-write-text : tie.Need-slice-write-text

@@ -1,4 +1,4 @@
-use Rattle.text.proofs.Decimals.{digits-part}
+use Rattle.text.proofs.Decimals.{digits_part}
 use Rattle.text.proofs.Writing.{wrote_as}
 use borrow.Author.Rules.{rules}
 use Rattle.text.proofs.put_decimal.Statement.{statement}
@@ -26,10 +26,10 @@ same_length : tie.Need-same-length
 same_length c = search rules
 
 returns : tie.Need-returns
-returns c = wrote_as (digits-part c.before.before.before.before.before.before.before.decimal-in.new.0 c.before.before.before.before.before.before.before.decimal-in.result _ c.before.before.before.before.before.before.before.decimal-in.auto.0 c.before.before.before.before.before.before.before.decimal-in.ensures.1) c.before.before.put-bytes.ensures
+returns c = wrote_as (digits_part c.before.before.before.before.before.before.before.decimal-in.new.0 c.before.before.before.before.before.before.before.decimal-in.result _ c.before.before.before.before.before.before.before.decimal-in.auto.0 c.before.before.before.before.before.before.before.decimal-in.ensures.1) c.before.before.put-bytes.ensures
 
-pub put-decimal-spec : {M : Type 1} → statement M
-put-decimal-spec =
+pub put_decimal_spec : {M : Type 1} → statement M
+put_decimal_spec =
     tie.close
     (tie.spec
     slice-aggregate-decimal-in

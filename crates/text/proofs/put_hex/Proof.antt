@@ -1,6 +1,6 @@
 use borrow.Author.Rules.{rules}
-use Rattle.text.proofs.Pairs.{hex-one, hex-none}
-use Rattle.text.proofs.Writing.{wrote_then, wrote_as, Left, left-all, left_step, left-done, left-length}
+use Rattle.text.proofs.Pairs.{hex_one, hex_none}
+use Rattle.text.proofs.Writing.{wrote_then, wrote_as, Left, left_all, left_step, left_done, left_length}
 use Rattle.text.specs.Written.{hex}
 use lib.ListN.{length, drop}
 use native.Mathlib.Omega.{arith}
@@ -18,7 +18,7 @@ decreases-loop text₀ at bytes next₀ i₀ text next i = length bytes - i
 
 -- src/lib.rt:120:5
 loop-holds : tie.Need-loop-init invariant-loop decreases-loop
-loop-holds c = (omega arith, left-all _ _ _ (omega arith))
+loop-holds c = (omega arith, left_all _ _ _ (omega arith))
 
 -- src/lib.rt:121:20
 shared-slice-read-byte : tie.Need-shared-slice-read-byte invariant-loop decreases-loop
@@ -50,18 +50,18 @@ loop-less c = omega arith
 
 -- src/lib.rt:120:5
 loop-again : tie.Need-loop-preserved invariant-loop decreases-loop
-loop-again c = (omega arith, left_step (omega arith) c.before.before.before.before.before.before.before.before.before.before.before.before.loop.invariant.1 (hex-one _ _ c.before.before.before.before.before.before.before.before.before.before.before.loop-test.true) (wrote_then (omega (arith, left-length c.before.before.before.before.before.before.before.before.before.before.before.before.loop.invariant.1)) (wrote_as (ap (λ (x : ℕ). x ∷ []) c.before.before.before.before.before.before.before.before.hex-digit.ensures) c.before.before.before.before.before.before.before.put.ensures) (wrote_as (ap (λ (x : ℕ). x ∷ []) c.before.before.before.hex-digit2.ensures) c.before.before.put2.ensures)))
+loop-again c = (omega arith, left_step (omega arith) c.before.before.before.before.before.before.before.before.before.before.before.before.loop.invariant.1 (hex_one _ _ c.before.before.before.before.before.before.before.before.before.before.before.loop-test.true) (wrote_then (omega (arith, left_length c.before.before.before.before.before.before.before.before.before.before.before.before.loop.invariant.1)) (wrote_as (ap (λ (x : ℕ). x ∷ []) c.before.before.before.before.before.before.before.before.hex-digit.ensures) c.before.before.before.before.before.before.before.put.ensures) (wrote_as (ap (λ (x : ℕ). x ∷ []) c.before.before.before.hex-digit2.ensures) c.before.before.put2.ensures)))
 
 -- src/lib.rt:115:1
 same_length : tie.Need-same-length invariant-loop decreases-loop
-same_length c = left-length c.before.loop.invariant.1
+same_length c = left_length c.before.loop.invariant.1
 
 -- src/lib.rt:115:1
 returns : tie.Need-returns invariant-loop decreases-loop
-returns c = left-done c.before.loop.invariant.1 (hex-none _ _ c.loop-test.false)
+returns c = left_done c.before.loop.invariant.1 (hex_none _ _ c.loop-test.false)
 
-pub put-hex-spec : {M : Type 1} → statement M
-put-hex-spec =
+pub put_hex_spec : {M : Type 1} → statement M
+put_hex_spec =
     tie.close
     (tie.spec
     invariant-loop

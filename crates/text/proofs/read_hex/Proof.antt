@@ -1,5 +1,5 @@
-use Rattle.text.proofs.Pairs.{pairs-past, pairs_end, pairs-odd, pairs-wrong, pairs-more}
-use Rattle.text.proofs.Taking.{Still, still-all, still-step, still-end, still-length}
+use Rattle.text.proofs.Pairs.{pairs_past, pairs_end, pairs_odd, pairs_wrong, pairs_more}
+use Rattle.text.proofs.Taking.{Still, still_all, still_step, still_end, still_length}
 use Rattle.text.proofs.Writing.{wrote_as}
 use Rattle.text.specs.Found.{pairs}
 use lib.ListN.{length, drop}
@@ -19,7 +19,7 @@ decreases-loop text at bytes₀ n₀ i₀ bytes n i = length text - i
 
 -- src/lib.rt:235:5
 loop-holds : tie.Need-loop-init invariant-loop decreases-loop
-loop-holds c = (omega arith, still-all _ _ _)
+loop-holds c = (omega arith, still_all _ _ _)
 
 -- src/lib.rt:236:20
 shared-slice-read-byte : tie.Need-shared-slice-read-byte invariant-loop decreases-loop
@@ -31,11 +31,11 @@ add-t12 c = omega arith
 
 -- src/lib.rt:238:13
 same_length : tie.Need-same-length invariant-loop decreases-loop
-same_length c = still-length c.before.before.before.loop.invariant.1
+same_length c = still_length c.before.before.before.loop.invariant.1
 
 -- src/lib.rt:238:13
 returns : tie.Need-returns invariant-loop decreases-loop
-returns c = still-end c.before.before.before.loop.invariant.1 (pairs_end _ _ _ c.before.before.loop-test.true c.if1.true)
+returns c = still_end c.before.before.before.loop.invariant.1 (pairs_end _ _ _ c.before.before.loop-test.true c.if1.true)
 
 -- src/lib.rt:240:12
 sub-if2 : tie.Need-overflow-sub-if2 invariant-loop decreases-loop
@@ -43,11 +43,11 @@ sub-if2 c = omega arith
 
 -- src/lib.rt:241:13
 same-length-2 : tie.Need-same-length-2 invariant-loop decreases-loop
-same-length-2 c = still-length c.before.before.before.before.loop.invariant.1
+same-length-2 c = still_length c.before.before.before.before.loop.invariant.1
 
 -- src/lib.rt:241:13
 returns-2 : tie.Need-returns-2 invariant-loop decreases-loop
-returns-2 c = still-end c.before.before.before.before.loop.invariant.1 (pairs-odd _ _ _ c.before.if1.false c.before.before.before.loop-test.true c.if2.true)
+returns-2 c = still_end c.before.before.before.before.loop.invariant.1 (pairs_odd _ _ _ c.before.if1.false c.before.before.before.loop-test.true c.if2.true)
 
 -- src/lib.rt:243:43
 add-pair-value : tie.Need-overflow-add-pair-value invariant-loop decreases-loop
@@ -63,11 +63,11 @@ pair-value-requires c κs = search rules
 
 -- src/lib.rt:245:13
 same-length-3 : tie.Need-same-length-3 invariant-loop decreases-loop
-same-length-3 c = still-length c.before.before.before.before.before.before.before.loop.invariant.1
+same-length-3 c = still_length c.before.before.before.before.before.before.before.loop.invariant.1
 
 -- src/lib.rt:245:13
 returns-3 : tie.Need-returns-3 invariant-loop decreases-loop
-returns-3 c = still-end c.before.before.before.before.before.before.before.loop.invariant.1 (pairs-wrong _ _ _ c.before.before.before.before.if1.false (omega arith) (rw c.before.pair-value.ensures at c.if3.true))
+returns-3 c = still_end c.before.before.before.before.before.before.before.loop.invariant.1 (pairs_wrong _ _ _ c.before.before.before.before.if1.false (omega arith) (rw c.before.pair-value.ensures at c.if3.true))
 
 -- src/lib.rt:247:27
 cast-put : tie.Need-overflow-cast-put invariant-loop decreases-loop
@@ -87,18 +87,18 @@ loop-less c = omega arith
 
 -- src/lib.rt:235:5
 loop-again : tie.Need-loop-preserved invariant-loop decreases-loop
-loop-again c = (omega (arith, c.before.before.put.ensures.next-is), still-step (omega arith) c.before.before.before.before.before.before.before.before.before.before.before.loop.invariant.1 (pairs-more c.before.before.before.before.before.before.before.before.before.before.before.before.before.before.args.text.now c.before.before.before.before.before.before.before.before.before.before.before.loop.n c.before.before.before.before.before.before.before.before.before.before.before.loop.i c.before.before.before.before.before.before.before.before.if1.false (omega arith) (rw c.before.before.before.before.before.pair-value.ensures at c.before.before.before.before.if3.false) _ (omega (arith, c.before.before.put.ensures.next-is))) (wrote_as (ap (λ (x : ℕ). x ∷ []) c.before.before.before.before.before.pair-value.ensures) c.before.before.put.ensures))
+loop-again c = (omega (arith, c.before.before.put.ensures.next_is), still_step (omega arith) c.before.before.before.before.before.before.before.before.before.before.before.loop.invariant.1 (pairs_more c.before.before.before.before.before.before.before.before.before.before.before.before.before.before.args.text.now c.before.before.before.before.before.before.before.before.before.before.before.loop.n c.before.before.before.before.before.before.before.before.before.before.before.loop.i c.before.before.before.before.before.before.before.before.if1.false (omega arith) (rw c.before.before.before.before.before.pair-value.ensures at c.before.before.before.before.if3.false) _ (omega (arith, c.before.before.put.ensures.next_is))) (wrote_as (ap (λ (x : ℕ). x ∷ []) c.before.before.before.before.before.pair-value.ensures) c.before.before.put.ensures))
 
 -- src/lib.rt:230:1
 same-length-4 : tie.Need-same-length-4 invariant-loop decreases-loop
-same-length-4 c = still-length c.before.loop.invariant.1
+same-length-4 c = still_length c.before.loop.invariant.1
 
 -- src/lib.rt:230:1
 returns-4 : tie.Need-returns-4 invariant-loop decreases-loop
-returns-4 c = still-end c.before.loop.invariant.1 (pairs-past _ _ _ c.loop-test.false)
+returns-4 c = still_end c.before.loop.invariant.1 (pairs_past _ _ _ c.loop-test.false)
 
-pub read-hex-spec : {M : Type 1} → statement M
-read-hex-spec =
+pub read_hex_spec : {M : Type 1} → statement M
+read_hex_spec =
     tie.close
     (tie.spec
     invariant-loop

@@ -1,5 +1,5 @@
-use Rattle.text.proofs.Numbers.{number_past, number-wrong, number-first, from_past, from_end, from_wrong, from_more}
-use Rattle.text.specs.Found.{number, numberFrom}
+use Rattle.text.proofs.Numbers.{number_past, number_wrong, number_first, from_past, from_end, from_wrong, from_more}
+use Rattle.text.specs.Found.{number, number_from}
 use lib.ListN.{length, drop}
 use borrow.Author.Rules.{rules}
 use native.Mathlib.Omega.{arith}
@@ -9,7 +9,7 @@ use Rattle.text.proofs.read_number.Statement.{statement}
 use Rattle.text.proofs.read_number.Tie as tie
 
 abbrev invariant-loop : tie.invariant-loop
-invariant-loop text at end limit most value₀ i₀ value i = (i ≤ length text) × ((value ≤ limit) × (numberFrom end limit value i (drop i text) ≡ number end limit at (drop at text)))
+invariant-loop text at end limit most value₀ i₀ value i = (i ≤ length text) × ((value ≤ limit) × (number_from end limit value i (drop i text) ≡ number end limit at (drop at text)))
 
 abbrev decreases-loop : tie.decreases-loop
 decreases-loop text at end limit most value₀ i₀ value i = length text - i
@@ -28,7 +28,7 @@ digit-of-requires c κs = search rules
 
 -- src/lib.rt:181:9
 returns-2 : tie.Need-returns-2 invariant-loop decreases-loop
-returns-2 c = sym (number-wrong _ _ _ _ (omega arith) (rw c.before.digit-of.ensures at c.if2.true))
+returns-2 c = sym (number_wrong _ _ _ _ (omega arith) (rw c.before.digit-of.ensures at c.if2.true))
 
 -- src/lib.rt:183:17
 add-i : tie.Need-overflow-add-i invariant-loop decreases-loop
@@ -36,7 +36,7 @@ add-i c = omega arith
 
 -- src/lib.rt:184:5
 loop-holds : tie.Need-loop-init invariant-loop decreases-loop
-loop-holds c = (omega arith, (omega arith, rw c.before.digit-of.ensures (sym (number-first _ _ _ _ (omega arith) (rw c.before.digit-of.ensures at c.if2.false)))))
+loop-holds c = (omega arith, (omega arith, rw c.before.digit-of.ensures (sym (number_first _ _ _ _ (omega arith) (rw c.before.digit-of.ensures at c.if2.false)))))
 
 -- src/lib.rt:185:20
 shared-slice-read-byte : tie.Need-shared-slice-read-byte invariant-loop decreases-loop
@@ -78,8 +78,8 @@ loop-again c = (omega arith, (c.if4.false, rw c.before.grow.ensures (sym (from_m
 returns-5 : tie.Need-returns-5 invariant-loop decreases-loop
 returns-5 c = sym (from_past _ _ _ _ _ c.loop-test.false) ∙ c.before.loop.invariant.1.1
 
-pub read-number-spec : {M : Type 1} → statement M
-read-number-spec =
+pub read_number_spec : {M : Type 1} → statement M
+read_number_spec =
     tie.close
     (tie.spec
     invariant-loop

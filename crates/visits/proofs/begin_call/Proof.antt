@@ -35,8 +35,8 @@ same_length c = search rules
 returns : tie.Need-returns
 returns c = cc
 
-pub begin-call-spec : {M : Type 1} → statement M
-begin-call-spec =
+pub begin_call_spec : {M : Type 1} → statement M
+begin_call_spec =
     tie.close
     (tie.spec
     field-in-requires

@@ -38,8 +38,8 @@ returns-2 : tie.Need-returns-2
 unfolding called
 returns-2 c = rw c.before.before.before.given2.given.1 (cc)
 
-pub call-spec : {M : Type 1} → statement M
-call-spec =
+pub call_spec : {M : Type 1} → statement M
+call_spec =
     tie.close
     (tie.spec
     enum-known-given

@@ -30,8 +30,8 @@ returns-2 : tie.Need-returns-2
 unfolding constrained meant
 returns-2 c = rw c.before.before.before.result2.given.1 (cc)
 
-pub constrain-spec : {M : Type 1} → statement M
-constrain-spec =
+pub constrain_spec : {M : Type 1} → statement M
+constrain_spec =
     tie.close
     (tie.spec
     enum-known-result

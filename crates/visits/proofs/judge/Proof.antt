@@ -1,4 +1,4 @@
-use Rattle.visits.proofs.Others.{judged-other}
+use Rattle.visits.proofs.Others.{judged_other}
 use Rattle.visits.specs.Visits.{judged}
 use mathlib.Core.Path.{sym}
 use borrow.Author.Rules.{rules}
@@ -17,7 +17,7 @@ unfolding judged
 returns-2 c = rw (c.before.before.value.given.1, c.if1.false)
 
 returns-3 : tie.Need-returns-3
-returns-3 c = sym (judged-other _ _ c.match.keys2)
+returns-3 c = sym (judged_other _ _ c.match.keys2)
 
-pub judge-spec : {M : Type 1} → statement M
-judge-spec = tie.close (tie.spec enum-known-value returns returns-2 returns-3)
+pub judge_spec : {M : Type 1} → statement M
+judge_spec = tie.close (tie.spec enum-known-value returns returns-2 returns-3)

@@ -33,8 +33,8 @@ returns-2 : tie.Need-returns-2
 unfolding updated meant
 returns-2 c = rw c.before.before.before.result2.given.1 (cc)
 
-pub update-spec : {M : Type 1} → statement M
-update-spec =
+pub update_spec : {M : Type 1} → statement M
+update_spec =
     tie.close
     (tie.spec
     enum-known-result

@@ -1,6 +1,6 @@
 use native.Mathlib.Omega.{arith}
 use Rattle.text.proofs.Writing.{wrote_as, wrote_then}
-use Rattle.console_text.proofs.Putting.{answer-lines-are}
+use Rattle.console_text.proofs.Putting.{answer_lines_are}
 use borrow.Author.Rules.{rules}
 use Rattle.console_text.proofs.lines.put_answer.Statement.{statement}
 use Rattle.console_text.proofs.lines.put_answer.Tie as tie
@@ -19,7 +19,7 @@ same_length c = search rules
 
 -- src/lines.rt:110:1
 returns : tie.Need-returns
-returns c = wrote_as (answer-lines-are _ _ _) (wrote_then (omega arith) c.before.before.before.before.before.before.put-numbers.ensures c.before.before.put-values.ensures)
+returns c = wrote_as (answer_lines_are _ _ _) (wrote_then (omega arith) c.before.before.before.before.before.before.put-numbers.ensures c.before.before.put-values.ensures)
 
-pub put-answer-spec : {M : Type 1} → statement M
-put-answer-spec = tie.close (tie.spec put-numbers-requires put-values-requires same_length returns)
+pub put_answer_spec : {M : Type 1} → statement M
+put_answer_spec = tie.close (tie.spec put-numbers-requires put-values-requires same_length returns)

@@ -1,5 +1,5 @@
 use Rattle.text.proofs.Writing.{wrote_as}
-use Rattle.console_text.proofs.Putting.{bool-true, bool_false}
+use Rattle.console_text.proofs.Putting.{bool_true, bool_false}
 use borrow.Author.Rules.{rules}
 use Rattle.console_text.proofs.lines.put_bool.Statement.{statement}
 use Rattle.console_text.proofs.lines.put_bool.Tie as tie
@@ -18,7 +18,7 @@ same_length c = search rules
 
 -- src/lines.rt:22:9
 returns : tie.Need-returns
-returns c = wrote_as (bool-true _ c.before.before.before.before.before.if1.true) c.before.before.put-bytes.ensures
+returns c = wrote_as (bool_true _ c.before.before.before.before.before.if1.true) c.before.before.put-bytes.ensures
 
 -- src/lines.rt:24:33
 slice-aggregate-put-bytes-2 : tie.Need-slice-aggregate-put-bytes-2
@@ -36,8 +36,8 @@ same-length-2 c = search rules
 returns-2 : tie.Need-returns-2
 returns-2 c = wrote_as (bool_false _ c.before.before.before.before.before.if1.false) c.before.before.put-bytes2.ensures
 
-pub put-bool-spec : {M : Type 1} → statement M
-put-bool-spec =
+pub put_bool_spec : {M : Type 1} → statement M
+put_bool_spec =
     tie.close
     (tie.spec
     slice-aggregate-put-bytes

@@ -1,4 +1,4 @@
-use Rattle.text.specs.Written.{signedDecimal}
+use Rattle.text.specs.Written.{signed_decimal}
 use mir.Facts.{to_z-of_z}
 use mathlib.Core.Path.{ap}
 use native.Mathlib.Omega.{arith}
@@ -25,9 +25,9 @@ same_length c = search rules
 
 -- src/lines.rt:27:1
 returns : tie.Need-returns
-returns c = wrote_then (omega arith) c.before.before.before.before.before.before.put-bytes.ensures (wrote_as (ap signedDecimal (to_z-of_z c.before.before.before.before.before.before.before.before.before.before.ranges.n)) c.before.before.put-signed.ensures)
+returns c = wrote_then (omega arith) c.before.before.before.before.before.before.put-bytes.ensures (wrote_as (ap signed_decimal (to_z-of_z c.before.before.before.before.before.before.before.before.before.before.ranges.n)) c.before.before.put-signed.ensures)
 
-pub put-integer-spec : {M : Type 1} → statement M
-put-integer-spec =
+pub put_integer_spec : {M : Type 1} → statement M
+put_integer_spec =
     tie.close
     (tie.spec slice-aggregate-put-bytes put-bytes-requires put-signed-requires same_length returns)

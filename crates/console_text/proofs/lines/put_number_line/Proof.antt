@@ -1,6 +1,6 @@
 use native.Mathlib.Omega.{arith}
 use Rattle.text.proofs.Writing.{wrote_as, wrote_then}
-use Rattle.console_text.proofs.Putting.{number-line-is}
+use Rattle.console_text.proofs.Putting.{number_line_is}
 use borrow.Author.Rules.{rules}
 use Rattle.console_text.proofs.lines.put_number_line.Statement.{statement}
 use Rattle.console_text.proofs.lines.put_number_line.Tie as tie
@@ -23,8 +23,8 @@ same_length c = search rules
 
 -- src/lines.rt:10:1
 returns : tie.Need-returns
-returns c = wrote_as (number-line-is _ _) (wrote_then (omega arith) (wrote_then (omega arith) c.before.before.before.before.before.before.before.before.before.before.put-bytes.ensures c.before.before.before.before.before.before.put-decimal.ensures) c.before.before.put.ensures)
+returns c = wrote_as (number_line_is _ _) (wrote_then (omega arith) (wrote_then (omega arith) c.before.before.before.before.before.before.before.before.before.before.put-bytes.ensures c.before.before.before.before.before.before.put-decimal.ensures) c.before.before.put.ensures)
 
-pub put-number-line-spec : {M : Type 1} → statement M
-put-number-line-spec =
+pub put_number_line_spec : {M : Type 1} → statement M
+put_number_line_spec =
     tie.close (tie.spec put-bytes-requires put-decimal-requires put-requires same_length returns)

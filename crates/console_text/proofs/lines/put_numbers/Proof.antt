@@ -1,6 +1,6 @@
 use native.Mathlib.Omega.{arith}
 use Rattle.text.proofs.Writing.{wrote_as, wrote_then}
-use Rattle.console_text.proofs.Putting.{number-lines-are}
+use Rattle.console_text.proofs.Putting.{number_lines_are}
 use borrow.Author.Rules.{rules}
 use Rattle.console_text.proofs.lines.put_numbers.Statement.{statement}
 use Rattle.console_text.proofs.lines.put_numbers.Tie as tie
@@ -43,10 +43,10 @@ same_length c = search rules
 
 -- src/lines.rt:81:1
 returns : tie.Need-returns
-returns c = wrote_as (number-lines-are _) (wrote_then (omega arith) (wrote_then (omega arith) (wrote_then (omega arith) c.before.before.before.before.before.before.before.before.before.before.before.before.before.before.before.before.before.put-number-line.ensures c.before.before.before.before.before.before.before.before.before.before.before.before.put-number-line2.ensures) c.before.before.before.before.before.before.before.put-number-line3.ensures) c.before.before.put-number-line4.ensures)
+returns c = wrote_as (number_lines_are _) (wrote_then (omega arith) (wrote_then (omega arith) (wrote_then (omega arith) c.before.before.before.before.before.before.before.before.before.before.before.before.before.before.before.before.before.put-number-line.ensures c.before.before.before.before.before.before.before.before.before.before.before.before.put-number-line2.ensures) c.before.before.before.before.before.before.before.put-number-line3.ensures) c.before.before.put-number-line4.ensures)
 
-pub put-numbers-spec : {M : Type 1} → statement M
-put-numbers-spec =
+pub put_numbers_spec : {M : Type 1} → statement M
+put_numbers_spec =
     tie.close
     (tie.spec
     slice-aggregate-put-number-line

@@ -1,6 +1,6 @@
 use native.Mathlib.Omega.{arith}
 use Rattle.text.proofs.Writing.{wrote_as, wrote_then}
-use Rattle.console_text.proofs.Putting.{text-empty, text-some}
+use Rattle.console_text.proofs.Putting.{text_empty, text_some}
 use borrow.Author.Rules.{rules}
 use Rattle.console_text.proofs.lines.put_text.Statement.{statement}
 use Rattle.console_text.proofs.lines.put_text.Tie as tie
@@ -15,7 +15,7 @@ same_length c = search rules
 
 -- src/lines.rt:39:9
 returns : tie.Need-returns
-returns c = wrote_as (text-empty _ c.before.before.before.before.if1.true) c.before.before.put.ensures
+returns c = wrote_as (text_empty _ c.before.before.before.before.if1.true) c.before.before.put.ensures
 
 -- src/lines.rt:41:44
 slice-aggregate-put-bytes : tie.Need-slice-aggregate-put-bytes
@@ -35,10 +35,10 @@ same-length-2 c = search rules
 
 -- src/lines.rt:35:1
 returns-2 : tie.Need-returns-2
-returns-2 c = wrote_as (text-some _ c.before.before.before.before.before.before.before.before.before.if1.false) (wrote_then (omega arith) c.before.before.before.before.before.before.put-bytes.ensures c.before.before.put-hex.ensures)
+returns-2 c = wrote_as (text_some _ c.before.before.before.before.before.before.before.before.before.if1.false) (wrote_then (omega arith) c.before.before.before.before.before.before.put-bytes.ensures c.before.before.put-hex.ensures)
 
-pub put-text-spec : {M : Type 1} → statement M
-put-text-spec =
+pub put_text_spec : {M : Type 1} → statement M
+put_text_spec =
     tie.close
     (tie.spec
     put-requires

@@ -1,8 +1,8 @@
-use Rattle.console_text.specs.Printed.{integerText}
+use Rattle.console_text.specs.Printed.{integer_text}
 use mir.Facts.{to_z-of_z}
 use mathlib.Core.Path.{ap, ◌∙◌}
 use Rattle.text.proofs.Writing.{wrote_as}
-use Rattle.console_text.proofs.Putting.{value-absent, value-bool, value-integer, value-text}
+use Rattle.console_text.proofs.Putting.{value_absent, value_bool, value_integer, value_text_lem}
 use borrow.Author.Rules.{rules}
 use Rattle.console_text.proofs.lines.put_value.Statement.{statement}
 use Rattle.console_text.proofs.lines.put_value.Tie as tie
@@ -49,7 +49,7 @@ same_length c = search rules
 
 -- src/lines.rt:46:1
 returns : tie.Need-returns
-returns c = wrote_as (value-absent _ _ _ c.before.before.before.before.enum_told.given.1) c.before.before.put.ensures
+returns c = wrote_as (value_absent _ _ _ c.before.before.before.before.enum_told.given.1) c.before.before.put.ensures
 
 -- src/lines.rt:46:1
 same-length-2 : tie.Need-same-length-2
@@ -57,7 +57,7 @@ same-length-2 c = search rules
 
 -- src/lines.rt:46:1
 returns-2 : tie.Need-returns-2
-returns-2 c = wrote_as (value-bool _ _ _ _ c.before.before.before.before.before.value.given.1) c.before.before.put-bool.ensures
+returns-2 c = wrote_as (value_bool _ _ _ _ c.before.before.before.before.before.value.given.1) c.before.before.put-bool.ensures
 
 -- src/lines.rt:46:1
 same-length-3 : tie.Need-same-length-3
@@ -65,7 +65,7 @@ same-length-3 c = search rules
 
 -- src/lines.rt:46:1
 returns-3 : tie.Need-returns-3
-returns-3 c = wrote_as (ap integerText (to_z-of_z (record { sfits = c.before.before.before.before.known-told2.given.0.1 })) ∙ value-integer _ _ _ _ c.before.before.before.before.before.value2.given.1) c.before.before.put-integer.ensures
+returns-3 c = wrote_as (ap integer_text (to_z-of_z (record { sfits = c.before.before.before.before.known-told2.given.0.1 })) ∙ value_integer _ _ _ _ c.before.before.before.before.before.value2.given.1) c.before.before.put-integer.ensures
 
 -- src/lines.rt:46:1
 same-length-4 : tie.Need-same-length-4
@@ -73,10 +73,10 @@ same-length-4 c = search rules
 
 -- src/lines.rt:46:1
 returns-4 : tie.Need-returns-4
-returns-4 c = wrote_as (value-text _ _ _ _ _ c.before.before.before.before.before.enum-told2.given.1 c.before.before.before.text-bytes.ensures.0) c.before.before.put-text.ensures
+returns-4 c = wrote_as (value_text_lem _ _ _ _ _ c.before.before.before.before.before.enum-told2.given.1 c.before.before.before.text-bytes.ensures.0) c.before.before.put-text.ensures
 
-pub put-value-spec : {M : Type 1} → statement M
-put-value-spec =
+pub put_value_spec : {M : Type 1} → statement M
+put_value_spec =
     tie.close
     (tie.spec
     enum_told

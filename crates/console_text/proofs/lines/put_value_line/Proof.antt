@@ -1,6 +1,6 @@
 use native.Mathlib.Omega.{arith}
 use Rattle.text.proofs.Writing.{wrote_as, wrote_then}
-use Rattle.console_text.proofs.Putting.{value-line-is}
+use Rattle.console_text.proofs.Putting.{value_line_is}
 use borrow.Author.Rules.{rules}
 use Rattle.console_text.proofs.lines.put_value_line.Statement.{statement}
 use Rattle.console_text.proofs.lines.put_value_line.Tie as tie
@@ -27,10 +27,10 @@ same_length c = search rules
 
 -- src/lines.rt:67:1
 returns : tie.Need-returns
-returns c = wrote_as (value-line-is _ _ _) (wrote_then (omega arith) (wrote_then (omega arith) c.before.before.before.before.before.before.before.before.before.before.put-bytes.ensures c.before.before.before.before.before.before.put-value.ensures) c.before.before.put.ensures)
+returns c = wrote_as (value_line_is _ _ _) (wrote_then (omega arith) (wrote_then (omega arith) c.before.before.before.before.before.before.before.before.before.before.put-bytes.ensures c.before.before.before.before.before.before.put-value.ensures) c.before.before.put.ensures)
 
-pub put-value-line-spec : {M : Type 1} → statement M
-put-value-line-spec =
+pub put_value_line_spec : {M : Type 1} → statement M
+put_value_line_spec =
     tie.close
     (tie.spec
     slice-aggregate-put-bytes

@@ -1,6 +1,6 @@
 use native.Mathlib.Omega.{arith}
 use Rattle.text.proofs.Writing.{wrote_as, wrote_then}
-use Rattle.console_text.proofs.Putting.{value-lines-are}
+use Rattle.console_text.proofs.Putting.{value_lines_are}
 use borrow.Author.Rules.{rules}
 use Rattle.console_text.proofs.lines.put_values.Statement.{statement}
 use Rattle.console_text.proofs.lines.put_values.Tie as tie
@@ -27,10 +27,10 @@ same_length c = search rules
 
 -- src/lines.rt:90:1
 returns : tie.Need-returns
-returns c = wrote_as (value-lines-are _ _ _) (wrote_then (omega arith) (wrote_then (omega arith) (wrote_then (omega arith) c.before.before.before.before.before.before.before.before.before.before.before.before.before.before.put-value-line.ensures c.before.before.before.before.before.before.before.before.before.before.put-value-line2.ensures) c.before.before.before.before.before.before.put-value-line3.ensures) c.before.before.put-value-line4.ensures)
+returns c = wrote_as (value_lines_are _ _ _) (wrote_then (omega arith) (wrote_then (omega arith) (wrote_then (omega arith) c.before.before.before.before.before.before.before.before.before.before.before.before.before.before.put-value-line.ensures c.before.before.before.before.before.before.before.before.before.before.put-value-line2.ensures) c.before.before.before.before.before.before.put-value-line3.ensures) c.before.before.put-value-line4.ensures)
 
-pub put-values-spec : {M : Type 1} → statement M
-put-values-spec =
+pub put_values_spec : {M : Type 1} → statement M
+put_values_spec =
     tie.close
     (tie.spec
     put-value-line-requires

@@ -1,5 +1,5 @@
 use mathlib.Core.Path.{◌∙◌}
-use Rattle.console_text.proofs.Reading.{budget-wrong, budget-key}
+use Rattle.console_text.proofs.Reading.{budget_wrong, budget_key_lem}
 use borrow.Author.Rules.{rules}
 use Rattle.console_text.proofs.request.read_budget.Statement.{statement}
 use Rattle.console_text.proofs.request.read_budget.Tie as tie
@@ -22,7 +22,7 @@ enum_told c = search rules
 
 -- src/request.rt:45:9
 returns : tie.Need-returns
-returns c = budget-wrong _ _ _ c.before.before.after-key.ensures c.enum_told.given.1
+returns c = budget_wrong _ _ _ c.before.before.after-key.ensures c.enum_told.given.1
 
 -- src/request.rt:47:5
 read-number-requires : tie.Need-read-number-requires
@@ -30,10 +30,10 @@ read-number-requires c κs = search rules
 
 -- src/request.rt:41:1
 returns-2 : tie.Need-returns-2
-returns-2 c = c.read_number.ensures ∙ budget-key _ _ _ _ c.before.before.before.before.after-key.ensures c.before.before.p.given.1
+returns-2 c = c.read_number.ensures ∙ budget_key_lem _ _ _ _ c.before.before.before.before.after-key.ensures c.before.before.p.given.1
 
-pub read-budget-spec : {M : Type 1} → statement M
-read-budget-spec =
+pub read_budget_spec : {M : Type 1} → statement M
+read_budget_spec =
     tie.close
     (tie.spec
     slice-aggregate-after-key

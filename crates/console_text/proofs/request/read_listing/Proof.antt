@@ -1,4 +1,4 @@
-use Rattle.console_text.proofs.Tables.{message-found, message-stored, request-run, request-line, request-room}
+use Rattle.console_text.proofs.Tables.{message_found, message_stored, request_run, request_line, request_room}
 use borrow.Author.Rules.{rules}
 use Rattle.console_text.proofs.request.read_listing.Statement.{statement}
 use Rattle.console_text.proofs.request.read_listing.Tie as tie
@@ -37,7 +37,7 @@ same-length-3 c = search rules
 
 -- src/request.rt:63:1
 returns : tie.Need-returns
-returns c = request-run _ _ _ _ c.before.before.before.before.before.before.before.before.before.before.before.before.before.before.before.before.before.before.requires.0.1.1.0 c.before.before.before.before.before.before.before.before.before.before.before.before.before.before.before.before.before.before.requires.0.1.1.1 c.before.before.before.before.before.before.before.before.before.before.before.read-from.ensures _ _ _ _ _ _ c.before.before.before.before.before.word_count.given.1 (message-stored _ _ _ _ c.before.before.before.before.before.before.before.before.before.before.before.before.before.before.before.before.before.before.requires.1 c.before.before.before.before.before.before.before.before.before.before.before.before.before.before.before.before.before.before.requires.0.0 c.before.before.before.before.before.before.before.before.before.before.before.before.before.before.before.before.before.before.requires.0.1.0 c.before.before.read-message.ensures) _ (message-found _ _ _ _ c.before.before.before.before.before.before.before.before.before.before.before.before.before.before.before.before.before.before.requires.1).count
+returns c = request_run _ _ _ _ c.before.before.before.before.before.before.before.before.before.before.before.before.before.before.before.before.before.before.requires.0.1.1.0 c.before.before.before.before.before.before.before.before.before.before.before.before.before.before.before.before.before.before.requires.0.1.1.1 c.before.before.before.before.before.before.before.before.before.before.before.read-from.ensures _ _ _ _ _ _ c.before.before.before.before.before.word_count.given.1 (message_stored _ _ _ _ c.before.before.before.before.before.before.before.before.before.before.before.before.before.before.before.before.before.before.requires.1 c.before.before.before.before.before.before.before.before.before.before.before.before.before.before.before.before.before.before.requires.0.0 c.before.before.before.before.before.before.before.before.before.before.before.before.before.before.before.before.before.before.requires.0.1.0 c.before.before.read-message.ensures) _ (message_found _ _ _ _ c.before.before.before.before.before.before.before.before.before.before.before.before.before.before.before.before.before.before.requires.1).count
 
 -- src/request.rt:63:1
 same-length-4 : tie.Need-same-length-4
@@ -49,7 +49,7 @@ same-length-5 c = search rules
 
 -- src/request.rt:63:1
 returns-2 : tie.Need-returns-2
-returns-2 c = request-line _ _ _ _ c.before.before.before.before.before.before.before.before.before.before.before.before.before.before.requires.0.1.1.0 c.before.before.before.before.before.before.before.before.before.before.before.before.before.before.requires.0.1.1.1 c.before.before.before.before.before.before.before.read-from.ensures _ _ _ _ _ c.before.n.given.1
+returns-2 c = request_line _ _ _ _ c.before.before.before.before.before.before.before.before.before.before.before.before.before.before.requires.0.1.1.0 c.before.before.before.before.before.before.before.before.before.before.before.before.before.before.requires.0.1.1.1 c.before.before.before.before.before.before.before.read-from.ensures _ _ _ _ _ c.before.n.given.1
 
 -- src/request.rt:63:1
 same-length-6 : tie.Need-same-length-6
@@ -61,10 +61,10 @@ same-length-7 c = search rules
 
 -- src/request.rt:63:1
 returns-3 : tie.Need-returns-3
-returns-3 c = request-room c.before.before.before.before.before.before.before.before.before.before.before.before.before.args.input.now c.before.before.before.before.before.before.before.before.before.before.before.before.before.args.at c.before.before.before.before.before.before.before.before.before.before.before.before.before.args.words.now c.before.before.before.before.before.before.before.before.before.before.before.before.before.args.literals.now c.before.before.before.before.before.before.before.before.before.before.before.before.before.requires.0.1.1.0 c.before.before.before.before.before.before.before.before.before.before.before.before.before.requires.0.1.1.1 c.before.before.before.before.before.before.read-from.ensures c.enum_told.given.1
+returns-3 c = request_room c.before.before.before.before.before.before.before.before.before.before.before.before.before.args.input.now c.before.before.before.before.before.before.before.before.before.before.before.before.before.args.at c.before.before.before.before.before.before.before.before.before.before.before.before.before.args.words.now c.before.before.before.before.before.before.before.before.before.before.before.before.before.args.literals.now c.before.before.before.before.before.before.before.before.before.before.before.before.before.requires.0.1.1.0 c.before.before.before.before.before.before.before.before.before.before.before.before.before.requires.0.1.1.1 c.before.before.before.before.before.before.read-from.ensures c.enum_told.given.1
 
-pub read-listing-spec : {M : Type 1} → statement M
-read-listing-spec =
+pub read_listing_spec : {M : Type 1} → statement M
+read_listing_spec =
     tie.close
     (tie.spec
     read-from-requires

@@ -1,5 +1,5 @@
-use Rattle.text.proofs.Taking.{took-as, took-none}
-use Rattle.console_text.proofs.Reading.{message-wrong, message-key}
+use Rattle.text.proofs.Taking.{took_as, took_none}
+use Rattle.console_text.proofs.Reading.{message_wrong, message_key_lem}
 use borrow.Author.Rules.{rules}
 use Rattle.console_text.proofs.request.read_message.Statement.{statement}
 use Rattle.console_text.proofs.request.read_message.Tie as tie
@@ -22,7 +22,7 @@ enum_told c = search rules
 
 -- src/request.rt:55:9
 returns : tie.Need-returns
-returns c = took-as (message-wrong _ _ _ c.before.before.after-key.ensures c.enum_told.given.1) (took-none _ _ _)
+returns c = took_as (message_wrong _ _ _ c.before.before.after-key.ensures c.enum_told.given.1) (took_none _ _ _)
 
 -- src/request.rt:57:5
 read-hex-requires : tie.Need-read-hex-requires
@@ -34,10 +34,10 @@ same_length c = search rules
 
 -- src/request.rt:51:1
 returns-2 : tie.Need-returns-2
-returns-2 c = took-as (message-key _ _ _ _ c.before.before.before.before.before.before.before.after-key.ensures c.before.before.before.before.before.p.given.1) c.before.before.read-hex.ensures
+returns-2 c = took_as (message_key_lem _ _ _ _ c.before.before.before.before.before.before.before.after-key.ensures c.before.before.before.before.before.p.given.1) c.before.before.read-hex.ensures
 
-pub read-message-spec : {M : Type 1} → statement M
-read-message-spec =
+pub read_message_spec : {M : Type 1} → statement M
+read_message_spec =
     tie.close
     (tie.spec
     slice-aggregate-after-key

@@ -1,4 +1,4 @@
-use Rattle.console_text.proofs.Reading.{mode-bench, mode-display, mode-wrong}
+use Rattle.console_text.proofs.Reading.{mode_bench, mode_display, mode_wrong}
 use borrow.Author.Rules.{rules}
 use Rattle.console_text.proofs.request.read_mode.Statement.{statement}
 use Rattle.console_text.proofs.request.read_mode.Tie as tie
@@ -17,7 +17,7 @@ enum-known-p c = search rules
 
 -- src/request.rt:32:9
 returns : tie.Need-returns
-returns c = mode-bench _ _ _ c.before.before.before.after-key.ensures c.before.p.given.1
+returns c = mode_bench _ _ _ c.before.before.before.after-key.ensures c.before.p.given.1
 
 enum_told : tie.Need-enum-told
 enum_told c = search rules
@@ -36,17 +36,17 @@ enum-known-p-2 c = search rules
 
 -- src/request.rt:35:9
 returns-2 : tie.Need-returns-2
-returns-2 c = mode-display _ _ _ _ c.before.before.before.before.before.before.before.after-key.ensures c.before.before.before.before.before.enum_told.given.1 c.before.before.before.after-key2.ensures c.before.p2.given.1
+returns-2 c = mode_display _ _ _ _ c.before.before.before.before.before.before.before.after-key.ensures c.before.before.before.before.before.enum_told.given.1 c.before.before.before.after-key2.ensures c.before.p2.given.1
 
 enum-told-2 : tie.Need-enum-told-2
 enum-told-2 c = search rules
 
 -- src/request.rt:28:1
 returns-3 : tie.Need-returns-3
-returns-3 c = mode-wrong _ _ _ c.before.before.before.before.before.before.after-key.ensures c.before.before.before.before.enum_told.given.1 c.before.before.after-key2.ensures c.enum-told2.given.1
+returns-3 c = mode_wrong _ _ _ c.before.before.before.before.before.before.after-key.ensures c.before.before.before.before.enum_told.given.1 c.before.before.after-key2.ensures c.enum-told2.given.1
 
-pub read-mode-spec : {M : Type 1} → statement M
-read-mode-spec =
+pub read_mode_spec : {M : Type 1} → statement M
+read_mode_spec =
     tie.close
     (tie.spec
     slice-aggregate-after-key

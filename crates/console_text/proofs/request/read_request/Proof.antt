@@ -1,8 +1,8 @@
 use mathlib.Core.Path.{sym, ap, ◌∙◌}
 use lib.ListN.{length}
 use native.Mathlib.Omega.{arith}
-use Rattle.text.proofs.Taking.{nothing-taken}
-use Rattle.console_text.proofs.Reading.{first-wrong, second-wrong, third-wrong, from-fourth}
+use Rattle.text.proofs.Taking.{nothing_taken}
+use Rattle.console_text.proofs.Reading.{first_wrong, second_wrong, third_wrong, from_fourth_lem}
 use borrow.Author.Rules.{rules}
 use Rattle.console_text.proofs.request.read_request.Statement.{statement}
 use Rattle.console_text.proofs.request.read_request.Tie as tie
@@ -21,7 +21,7 @@ enum_told c = search rules
 
 -- src/request.rt:99:9
 returns : tie.Need-returns
-returns c = first-wrong _ _ _ _ c.before.before.read-mode.ensures c.enum_told.given.1
+returns c = first_wrong _ _ _ _ c.before.before.read-mode.ensures c.enum_told.given.1
 
 -- src/request.rt:101:33
 read-budget-requires : tie.Need-read-budget-requires
@@ -37,7 +37,7 @@ enum-told-2 c = search rules
 
 -- src/request.rt:102:9
 returns-2 : tie.Need-returns-2
-returns-2 c = second-wrong _ _ _ _ c.before.before.before.before.before.before.read-mode.ensures _ _ c.before.before.before.before.mode.given.1 c.before.before.read-budget.ensures c.enum-told2.given.1
+returns-2 c = second_wrong _ _ _ _ c.before.before.before.before.before.before.read-mode.ensures _ _ c.before.before.before.before.mode.given.1 c.before.before.read-budget.ensures c.enum-told2.given.1
 
 -- src/request.rt:105:55
 slice-relend-prefix-read-message : tie.Need-slice-relend-prefix-read-message
@@ -65,11 +65,11 @@ same_length c = search rules
 
 -- src/request.rt:106:9
 returns-3 : tie.Need-returns-3
-returns-3 c = third-wrong _ _ _ _ c.before.before.before.before.before.before.before.before.before.before.before.before.before.read-mode.ensures _ _ c.before.before.before.before.before.before.before.before.before.before.before.mode.given.1 c.before.before.before.before.before.before.before.before.before.read-budget.ensures _ _ c.before.before.before.before.before.before.before.budget.given.1 c.before.before.before.before.read-message.ensures c.enum-told3.given.1
+returns-3 c = third_wrong _ _ _ _ c.before.before.before.before.before.before.before.before.before.before.before.before.before.read-mode.ensures _ _ c.before.before.before.before.before.before.before.before.before.before.before.mode.given.1 c.before.before.before.before.before.before.before.before.before.read-budget.ensures _ _ c.before.before.before.before.before.before.before.budget.given.1 c.before.before.before.before.read-message.ensures c.enum-told3.given.1
 
 -- src/request.rt:108:5
 read-listing-requires : tie.Need-read-listing-requires
-read-listing-requires c κs = ((c.before.before.before.before.before.before.before.before.before.before.before.before.before.before.before.before.before.before.before.before.before.before.requires.0, (omega (arith, ap length (nothing-taken c.before.before.before.before.before.before.before.before.read-message.ensures c.before.before.before.before.before.before.before.before.before.before.before.before.before.before.before.before.before.before.before.before.before.before.args.message.now)), (c.before.before.before.before.before.before.before.before.before.before.before.before.before.before.before.before.before.before.before.before.before.before.requires.1.1.0, c.before.before.before.before.before.before.before.before.before.before.before.before.before.before.before.before.before.before.before.before.before.before.requires.1.1.1))), sym c.before.before.before.before.before.before.before.before.read-message.ensures.found-is ∙ c.before.before.before.before.bytes.given.1)
+read-listing-requires c κs = ((c.before.before.before.before.before.before.before.before.before.before.before.before.before.before.before.before.before.before.before.before.before.before.requires.0, (omega (arith, ap length (nothing_taken c.before.before.before.before.before.before.before.before.read-message.ensures c.before.before.before.before.before.before.before.before.before.before.before.before.before.before.before.before.before.before.before.before.before.before.args.message.now)), (c.before.before.before.before.before.before.before.before.before.before.before.before.before.before.before.before.before.before.before.before.before.before.requires.1.1.0, c.before.before.before.before.before.before.before.before.before.before.before.before.before.before.before.before.before.before.before.before.before.before.requires.1.1.1))), sym c.before.before.before.before.before.before.before.before.read-message.ensures.found_is ∙ c.before.before.before.before.bytes.given.1)
 
 -- src/request.rt:89:1
 same-length-2 : tie.Need-same-length-2
@@ -85,10 +85,10 @@ same-length-4 c = search rules
 
 -- src/request.rt:89:1
 returns-4 : tie.Need-returns-4
-returns-4 c = c.before.before.before.before.before.before.read-listing.ensures ∙ from-fourth _ _ _ _ c.before.before.before.before.before.before.before.before.before.before.before.before.before.before.before.before.before.before.before.before.before.before.before.before.read-mode.ensures _ _ c.before.before.before.before.before.before.before.before.before.before.before.before.before.before.before.before.before.before.before.before.before.before.mode.given.1 c.before.before.before.before.before.before.before.before.before.before.before.before.before.before.before.before.before.before.before.before.read-budget.ensures _ _ c.before.before.before.before.before.before.before.before.before.before.before.before.before.before.before.before.before.before.budget.given.1 c.before.before.before.before.before.before.before.before.before.before.before.before.before.before.before.read-message.ensures c.before.before.before.before.before.before.before.before.before.before.before.bytes.given.1
+returns-4 c = c.before.before.before.before.before.before.read-listing.ensures ∙ from_fourth_lem _ _ _ _ c.before.before.before.before.before.before.before.before.before.before.before.before.before.before.before.before.before.before.before.before.before.before.before.before.read-mode.ensures _ _ c.before.before.before.before.before.before.before.before.before.before.before.before.before.before.before.before.before.before.before.before.before.before.mode.given.1 c.before.before.before.before.before.before.before.before.before.before.before.before.before.before.before.before.before.before.before.before.read-budget.ensures _ _ c.before.before.before.before.before.before.before.before.before.before.before.before.before.before.before.before.before.before.budget.given.1 c.before.before.before.before.before.before.before.before.before.before.before.before.before.before.before.read-message.ensures c.before.before.before.before.before.before.before.before.before.before.before.bytes.given.1
 
-pub read-request-spec : {M : Type 1} → statement M
-read-request-spec =
+pub read_request_spec : {M : Type 1} → statement M
+read_request_spec =
     tie.close
     (tie.spec
     read-mode-requires

@@ -29,6 +29,6 @@ returns c = rw (le-leb (c.before.before.before.before.args.span.start + c.before
 returns-2 : tie.Need-returns-2
 returns-2 c = rw (lt-leb (c.before.before.before.args.span.start + c.before.before.before.args.span.length) c.before.before.before.args.slice (omega arith))
 
-pub fitting-word-spec : {M : Type 1} → statement M
-fitting-word-spec =
+pub fitting_word_spec : {M : Type 1} → statement M
+fitting_word_spec =
     tie.close (tie.spec cast-if1 cast-if1-2 add-if1 span-word-requires returns returns-2)

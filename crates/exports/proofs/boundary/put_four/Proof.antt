@@ -26,8 +26,8 @@ same_length c = search rules
 returns : tie.Need-returns
 returns c = cc
 
-pub put-four-spec : {M : Type 1} → statement M
-put-four-spec =
+pub put_four_spec : {M : Type 1} → statement M
+put_four_spec =
     tie.close
     (tie.spec
     put-long-requires

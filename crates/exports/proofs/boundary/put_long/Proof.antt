@@ -24,5 +24,5 @@ returns c = search rules
 returns-2 : tie.Need-returns-2
 returns-2 c = sym (set_out c.before.args.words.now c.before.args.at c.before.args.word c.if1.false)
 
-pub put-long-spec : {M : Type 1} → statement M
-put-long-spec = tie.close (tie.spec mul_words slice-write-words same_length returns returns-2)
+pub put_long_spec : {M : Type 1} → statement M
+put_long_spec = tie.close (tie.spec mul_words slice-write-words same_length returns returns-2)

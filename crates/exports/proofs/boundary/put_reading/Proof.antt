@@ -1,5 +1,5 @@
-use Rattle.listing.specs.Answers.{readingNumber, readingPlace, readingWords, readingLiterals}
-use Rattle.exports.specs.Boundary.{withReading}
+use Rattle.listing.specs.Answers.{reading_number, reading_place, reading_words, reading_literals}
+use Rattle.exports.specs.Boundary.{with_reading}
 use borrow.Author.Rules.{rules}
 use Rattle.exports.proofs.boundary.put_reading.Statement.{statement}
 use Rattle.exports.proofs.boundary.put_reading.Tie as tie
@@ -38,7 +38,7 @@ same_length c = search rules
 
 -- src/boundary.rt:75:1
 returns : tie.Need-returns
-unfolding withReading readingNumber readingPlace readingWords readingLiterals
+unfolding with_reading reading_number reading_place reading_words reading_literals
 returns c = rw c.before.before.before.before.before.reading.given.1 (cc)
 
 -- src/boundary.rt:75:1
@@ -47,7 +47,7 @@ same-length-2 c = search rules
 
 -- src/boundary.rt:75:1
 returns-2 : tie.Need-returns-2
-unfolding withReading readingNumber readingPlace readingWords readingLiterals
+unfolding with_reading reading_number reading_place reading_words reading_literals
 returns-2 c = rw c.before.before.before.before.before.reading2.given.1 (cc)
 
 -- src/boundary.rt:75:1
@@ -56,11 +56,11 @@ same-length-3 c = search rules
 
 -- src/boundary.rt:75:1
 returns-3 : tie.Need-returns-3
-unfolding withReading readingNumber readingPlace readingWords readingLiterals
+unfolding with_reading reading_number reading_place reading_words reading_literals
 returns-3 c = rw c.before.before.before.before.enum_told.given.1 (cc)
 
-pub put-reading-spec : {M : Type 1} → statement M
-put-reading-spec =
+pub put_reading_spec : {M : Type 1} → statement M
+put_reading_spec =
     tie.close
     (tie.spec
     enum-known-reading

@@ -1,4 +1,4 @@
-use Rattle.exports.specs.Boundary.{withRecord}
+use Rattle.exports.specs.Boundary.{with_record}
 use borrow.Author.Rules.{rules}
 use Rattle.exports.proofs.boundary.put_record.Statement.{statement}
 use Rattle.exports.proofs.boundary.put_record.Tie as tie
@@ -29,11 +29,11 @@ same_length c = search rules
 
 -- src/boundary.rt:44:1
 returns : tie.Need-returns
-unfolding withRecord
+unfolding with_record
 returns c = cc
 
-pub put-record-spec : {M : Type 1} → statement M
-put-record-spec =
+pub put_record_spec : {M : Type 1} → statement M
+put_record_spec =
     tie.close
     (tie.spec
     put-head-requires

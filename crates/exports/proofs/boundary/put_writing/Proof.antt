@@ -1,5 +1,5 @@
-use Rattle.listing.specs.Answers.{writingNumber, writingPlace, writingLength}
-use Rattle.exports.specs.Boundary.{withWriting}
+use Rattle.listing.specs.Answers.{writing_number, writing_place, writing_length}
+use Rattle.exports.specs.Boundary.{with_writing}
 use borrow.Author.Rules.{rules}
 use Rattle.exports.proofs.boundary.put_writing.Statement.{statement}
 use Rattle.exports.proofs.boundary.put_writing.Tie as tie
@@ -34,7 +34,7 @@ same_length c = search rules
 
 -- src/boundary.rt:85:1
 returns : tie.Need-returns
-unfolding withWriting writingNumber writingPlace writingLength
+unfolding with_writing writing_number writing_place writing_length
 returns c = rw c.before.before.before.before.before.writing.given.1 (cc)
 
 -- src/boundary.rt:85:1
@@ -43,7 +43,7 @@ same-length-2 c = search rules
 
 -- src/boundary.rt:85:1
 returns-2 : tie.Need-returns-2
-unfolding withWriting writingNumber writingPlace writingLength
+unfolding with_writing writing_number writing_place writing_length
 returns-2 c = rw c.before.before.before.before.enum_told.given.1 (cc)
 
 -- src/boundary.rt:85:1
@@ -52,11 +52,11 @@ same-length-3 c = search rules
 
 -- src/boundary.rt:85:1
 returns-3 : tie.Need-returns-3
-unfolding withWriting writingNumber writingPlace writingLength
+unfolding with_writing writing_number writing_place writing_length
 returns-3 c = rw c.before.before.before.before.enum-told2.given.1 (cc)
 
-pub put-writing-spec : {M : Type 1} → statement M
-put-writing-spec =
+pub put_writing_spec : {M : Type 1} → statement M
+put_writing_spec =
     tie.close
     (tie.spec
     enum-known-writing

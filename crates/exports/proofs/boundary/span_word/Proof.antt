@@ -31,6 +31,6 @@ returns c = rw c.if1.true (omega arith)
 returns-2 : tie.Need-returns-2
 returns-2 c = rw c.if1.false (omega arith)
 
-pub span-word-spec : {M : Type 1} → statement M
-span-word-spec =
+pub span_word_spec : {M : Type 1} → statement M
+span_word_spec =
     tie.close (tie.spec cast-place mul-place cast-place-2 add-place add-result returns returns-2)

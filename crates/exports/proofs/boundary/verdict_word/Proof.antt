@@ -1,4 +1,4 @@
-use Rattle.exports.specs.Boundary.{verdictWord}
+use Rattle.exports.specs.Boundary.{verdict_word}
 use Rattle.grammar.specs.Answer.{number, place}
 use borrow.Author.Rules.{rules}
 use Rattle.exports.proofs.boundary.verdict_word.Statement.{statement}
@@ -62,46 +62,46 @@ enum-told-5 c = search rules
 
 -- src/boundary.rt:12:1
 returns : tie.Need-returns
-unfolding verdictWord number place
+unfolding verdict_word number place
 returns c = rw c.enum_told.given.1
 
 -- src/boundary.rt:12:1
 returns-2 : tie.Need-returns-2
-unfolding verdictWord number place
+unfolding verdict_word number place
 returns-2 c = rw c.enum-told2.given.1
 
 -- src/boundary.rt:12:1
 returns-3 : tie.Need-returns-3
-unfolding verdictWord number place
+unfolding verdict_word number place
 returns-3 c = rw c.before.verdict.given.1
 
 -- src/boundary.rt:12:1
 returns-4 : tie.Need-returns-4
-unfolding verdictWord number place
+unfolding verdict_word number place
 returns-4 c = rw c.before.verdict2.given.1
 
 -- src/boundary.rt:12:1
 returns-5 : tie.Need-returns-5
-unfolding verdictWord number place
+unfolding verdict_word number place
 returns-5 c = rw c.enum-told3.given.1
 
 -- src/boundary.rt:12:1
 returns-6 : tie.Need-returns-6
-unfolding verdictWord number place
+unfolding verdict_word number place
 returns-6 c = rw c.before.verdict3.given.1
 
 -- src/boundary.rt:12:1
 returns-7 : tie.Need-returns-7
-unfolding verdictWord number place
+unfolding verdict_word number place
 returns-7 c = rw c.enum-told4.given.1
 
 -- src/boundary.rt:12:1
 returns-8 : tie.Need-returns-8
-unfolding verdictWord number place
+unfolding verdict_word number place
 returns-8 c = rw c.enum-told5.given.1
 
-pub verdict-word-spec : {M : Type 1} → statement M
-verdict-word-spec =
+pub verdict_word_spec : {M : Type 1} → statement M
+verdict_word_spec =
     tie.close
     (tie.spec
     enum_told

@@ -1,6 +1,6 @@
-use Rattle.expressions.proofs.Givens.{not-of-integers}
-use Rattle.expressions.specs.Given.{operatorOf}
-use Rattle.expressions.specs.Meant.{ofIntegers}
+use Rattle.expressions.proofs.Givens.{not_of_integers}
+use Rattle.expressions.specs.Given.{operator_of}
+use Rattle.expressions.specs.Meant.{of_integers}
 use Rattle.grammar.specs.Values.{number_at}
 use mir.Facts.{to_z-of_z}
 use mathlib.Core.Path.{◌∙◌, ap}
@@ -42,30 +42,30 @@ stuck-requires : tie.Need-stuck-requires
 stuck-requires c κs = search rules
 
 returns : tie.Need-returns
-unfolding operatorOf ofIntegers
+unfolding operator_of of_integers
 returns c = rw c.before.before.match.keys1 (c.number-given.ensures ∙ ap (number_at c.before.before.before.args.k) (rw (to_z-of_z c.before.before.before.ranges.a, to_z-of_z c.before.before.before.ranges.b) at c.before.calculate.ensures))
 
 returns-2 : tie.Need-returns-2
-unfolding operatorOf ofIntegers
+unfolding operator_of of_integers
 returns-2 c = rw c.before.before.match.keys2 (c.number-given2.ensures ∙ ap (number_at c.before.before.before.args.k) (rw (to_z-of_z c.before.before.before.ranges.a, to_z-of_z c.before.before.before.ranges.b) at c.before.calculate2.ensures))
 
 returns-3 : tie.Need-returns-3
-unfolding operatorOf ofIntegers
+unfolding operator_of of_integers
 returns-3 c = rw c.before.before.match.keys3 (c.number-given3.ensures ∙ ap (number_at c.before.before.before.args.k) (rw (to_z-of_z c.before.before.before.ranges.a, to_z-of_z c.before.before.before.ranges.b) at c.before.calculate3.ensures))
 
 returns-4 : tie.Need-returns-4
-unfolding operatorOf ofIntegers
+unfolding operator_of of_integers
 returns-4 c = rw c.before.before.match.keys4 (c.number-given4.ensures ∙ ap (number_at c.before.before.before.args.k) (rw (to_z-of_z c.before.before.before.ranges.a, to_z-of_z c.before.before.before.ranges.b) at c.before.calculate4.ensures))
 
 returns-5 : tie.Need-returns-5
-unfolding operatorOf ofIntegers
+unfolding operator_of of_integers
 returns-5 c = rw (c.before.before.match.keys5, ← rw (to_z-of_z c.before.before.before.ranges.a, to_z-of_z c.before.before.before.ranges.b) at c.before.greater.ensures) c.truth.ensures
 
 returns-6 : tie.Need-returns-6
-returns-6 c = c.stuck.ensures ∙ not-of-integers c.before.before.args.j c.before.before.args.k c.before.before.args.a c.before.before.args.b c.before.match.rest.0.0.0.0.1 c.before.match.rest.0.0.0.1 c.before.match.rest.0.0.1 c.before.match.rest.0.1 c.before.match.rest.1
+returns-6 c = c.stuck.ensures ∙ not_of_integers c.before.before.args.j c.before.before.args.k c.before.before.args.a c.before.before.args.b c.before.match.rest.0.0.0.0.1 c.before.match.rest.0.0.0.1 c.before.match.rest.0.0.1 c.before.match.rest.0.1 c.before.match.rest.1
 
-pub integers-given-spec : {M : Type 1} → statement M
-integers-given-spec =
+pub integers_given_spec : {M : Type 1} → statement M
+integers_given_spec =
     tie.close
     (tie.spec
     calculate-requires

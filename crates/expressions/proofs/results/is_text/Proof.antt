@@ -8,5 +8,5 @@ returns c = rw (lt-ltb c.before.before.args.g.tag 3 c.if1.true)
 returns-2 : tie.Need-returns-2
 returns-2 c = rw (le-ltb c.before.before.before.args.g.tag 3 c.before.if1.false)
 
-pub is-text-spec : {M : Type 1} → statement M
-is-text-spec = tie.close (tie.spec returns returns-2)
+pub is_text_spec : {M : Type 1} → statement M
+is_text_spec = tie.close (tie.spec returns returns-2)

@@ -1,4 +1,4 @@
-use Rattle.expressions.proofs.Givens.{negated-bool, negated-other}
+use Rattle.expressions.proofs.Givens.{negated_bool, negated_other}
 use mathlib.Core.Path.{◌∙◌}
 use borrow.Author.Rules.{rules}
 use Rattle.expressions.proofs.results.negate_given.Statement.{statement}
@@ -11,10 +11,10 @@ stuck-requires : tie.Need-stuck-requires
 stuck-requires c κs = search rules
 
 returns : tie.Need-returns
-returns c = c.truth.ensures ∙ negated-bool c.before.before.before.before.args.k c.before.before.before.before.args.v.payload c.before.before.if1.true
+returns c = c.truth.ensures ∙ negated_bool c.before.before.before.before.args.k c.before.before.before.before.args.v.payload c.before.before.if1.true
 
 returns-2 : tie.Need-returns-2
-returns-2 c = c.stuck.ensures ∙ negated-other c.before.before.before.args.k c.before.before.before.args.v.tag c.before.before.before.args.v.payload c.before.if1.false
+returns-2 c = c.stuck.ensures ∙ negated_other c.before.before.before.args.k c.before.before.before.args.v.tag c.before.before.before.args.v.payload c.before.if1.false
 
-pub negate-given-spec : {M : Type 1} → statement M
-negate-given-spec = tie.close (tie.spec truth-requires stuck-requires returns returns-2)
+pub negate_given_spec : {M : Type 1} → statement M
+negate_given_spec = tie.close (tie.spec truth-requires stuck-requires returns returns-2)

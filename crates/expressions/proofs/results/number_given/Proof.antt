@@ -1,4 +1,4 @@
-use Rattle.expressions.proofs.Givens.{number_is, number-overflow, number-zero-divisor}
+use Rattle.expressions.proofs.Givens.{number_is, number_overflow, number_zero_divisor}
 use mir.Facts.{to_z-of_z}
 use native.Mathlib.Omega.{arith}
 use borrow.Author.Rules.{rules}
@@ -24,13 +24,13 @@ returns : tie.Need-returns
 returns c = number_is c.before.before.before.before.args.k _ (record { sfits = c.before.known-told.given.0.1 }) c.before.before.n.given.1 (rw (to_z-of_z (record { sfits = c.before.known-told.given.0.1 })) at c.word_of.ensures)
 
 returns-2 : tie.Need-returns-2
-returns-2 c = number-overflow c.before.before.before.before.before.args.k (omega arith) c.before.before.before.n2.given.1 c.enum_told.given.1
+returns-2 c = number_overflow c.before.before.before.before.before.args.k (omega arith) c.before.before.before.n2.given.1 c.enum_told.given.1
 
 returns-3 : tie.Need-returns-3
-returns-3 c = number-zero-divisor c.before.before.before.before.before.args.k (omega arith) c.before.before.before.n2.given.1 c.enum-told2.given.1
+returns-3 c = number_zero_divisor c.before.before.before.before.before.args.k (omega arith) c.before.before.before.n2.given.1 c.enum-told2.given.1
 
-pub number-given-spec : {M : Type 1} → statement M
-number-given-spec =
+pub number_given_spec : {M : Type 1} → statement M
+number_given_spec =
     tie.close
     (tie.spec
     enum-known-n

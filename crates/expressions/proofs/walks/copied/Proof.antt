@@ -2,7 +2,7 @@ use native.Mathlib.Omega.{arith}
 use Prim.Native.Nat.{◌-◌, ◌≤◌}
 use lib.ListN.{length, length-set}
 use mathlib.Core.Path.{◌≡◌, refl, ◌∙◌}
-use Rattle.expressions.proofs.Whole.{alike-more}
+use Rattle.expressions.proofs.Whole.{alike_more}
 use Rattle.laws.specs.Pile.{Alike}
 use Rattle.expressions.proofs.walks.copied.Statement.{statement}
 use Rattle.expressions.proofs.walks.copied.Tie as tie
@@ -35,7 +35,7 @@ loop-less : tie.Need-loop-smaller invariant-loop decreases-loop
 loop-less c = omega arith
 
 loop-again : tie.Need-loop-preserved invariant-loop decreases-loop
-loop-again c = (omega arith, alike-more c.before.before.before.args.pile.now c.before.before.loop.longer c.before.before.loop.i c.before.before.loop.invariant.1 (let e = c.before.before.loop.invariant.2 in omega arith), length-set c.before.before.loop.longer c.before.before.loop.i _ ∙ c.before.before.loop.invariant.2)
+loop-again c = (omega arith, alike_more c.before.before.before.args.pile.now c.before.before.loop.longer c.before.before.loop.i c.before.before.loop.invariant.1 (let e = c.before.before.loop.invariant.2 in omega arith), length-set c.before.before.loop.longer c.before.before.loop.i _ ∙ c.before.before.loop.invariant.2)
 
 same_length : tie.Need-same-length invariant-loop decreases-loop
 same_length c = c.before.loop.invariant.2
@@ -43,8 +43,8 @@ same_length c = c.before.loop.invariant.2
 returns : tie.Need-returns invariant-loop decreases-loop
 returns c = let e : c.before.loop.i ≡ length c.before.before.args.pile.now = omega arith in rw e at c.before.loop.invariant.1
 
-pub copied-spec : {M : Type 1} → statement M
-copied-spec =
+pub copied_spec : {M : Type 1} → statement M
+copied_spec =
     tie.close
     (tie.spec
     invariant-loop

@@ -1,5 +1,5 @@
 use native.Mathlib.Omega.{arith}
-use Rattle.expressions.proofs.Halves.{entered-work, entered-end, entered-left}
+use Rattle.expressions.proofs.Halves.{entered_work, entered_end, entered_left}
 use Rattle.expressions.specs.Walks.{asked}
 use borrow.Author.Rules.{rules}
 use Rattle.expressions.proofs.walks.enter.Statement.{statement}
@@ -33,7 +33,7 @@ same_length : tie.Need-same-length
 same_length c = search rules
 
 returns : tie.Need-returns
-returns c = λ filled literals message. entered-work (asked c.before.before.before.before.before.before.before.before.before.before.before.before.before.before.args.words.now literals message c.before.before.before.before.before.before.before.before.before.before.before.before.before.before.args.slots.now c.before.before.before.before.before.before.before.before.before.before.before.before.before.before.args.levels) c.before.before.before.before.before.before.before.before.before.before.before.before.before.before.args.pile.now c.before.before.before.before.before.before.before.before.before.before.before.before.before.before.args.w c.before.before.before.before.before.before.before.before.before.before.before.before.before.before.requires.1 filled c.before.before.before.before.before.before.before.before.before.seen.ensures c.before.before.put-to-work.ensures c.before.before.before.before.before.before.before.if1.true c.before.before.before.before.before.before.before.before.before.before.before.before.before.before.requires.2 (omega arith) (omega arith) (omega arith)
+returns c = λ filled literals message. entered_work (asked c.before.before.before.before.before.before.before.before.before.before.before.before.before.before.args.words.now literals message c.before.before.before.before.before.before.before.before.before.before.before.before.before.before.args.slots.now c.before.before.before.before.before.before.before.before.before.before.before.before.before.before.args.levels) c.before.before.before.before.before.before.before.before.before.before.before.before.before.before.args.pile.now c.before.before.before.before.before.before.before.before.before.before.before.before.before.before.args.w c.before.before.before.before.before.before.before.before.before.before.before.before.before.before.requires.1 filled c.before.before.before.before.before.before.before.before.before.seen.ensures c.before.before.put-to-work.ensures c.before.before.before.before.before.before.before.if1.true c.before.before.before.before.before.before.before.before.before.before.before.before.before.before.requires.2 (omega arith) (omega arith) (omega arith)
 
 leaf-requires : tie.Need-leaf-requires
 leaf-requires c κs = search rules
@@ -42,13 +42,13 @@ found-requires : tie.Need-found-requires
 found-requires c κs = search rules
 
 returns-2 : tie.Need-returns-2
-returns-2 c = λ filled literals message. entered-end (asked c.before.before.before.before.before.before.before.before.before.before.before.args.words.now literals message c.before.before.before.before.before.before.before.before.before.before.before.args.slots.now c.before.before.before.before.before.before.before.before.before.before.before.args.levels) c.before.before.before.before.before.before.before.before.before.before.before.args.pile.now c.before.before.before.before.before.before.before.before.before.before.before.args.w c.before.before.before.before.before.before.before.before.before.before.before.requires.1 filled c.before.before.before.before.before.before.seen.ensures _ c.before.before.before.leaf.ensures (omega arith) c.found.ensures c.before.if2.true
+returns-2 c = λ filled literals message. entered_end (asked c.before.before.before.before.before.before.before.before.before.before.before.args.words.now literals message c.before.before.before.before.before.before.before.before.before.before.before.args.slots.now c.before.before.before.before.before.before.before.before.before.before.before.args.levels) c.before.before.before.before.before.before.before.before.before.before.before.args.pile.now c.before.before.before.before.before.before.before.before.before.before.before.args.w c.before.before.before.before.before.before.before.before.before.before.before.requires.1 filled c.before.before.before.before.before.before.seen.ensures _ c.before.before.before.leaf.ensures (omega arith) c.found.ensures c.before.if2.true
 
 has-left-requires : tie.Need-has-left-requires
 has-left-requires c κs = search rules
 
 returns-3 : tie.Need-returns-3
-returns-3 c = λ filled literals message. entered-left (asked c.before.before.before.before.before.before.before.before.before.before.before.args.words.now literals message c.before.before.before.before.before.before.before.before.before.before.before.args.slots.now c.before.before.before.before.before.before.before.before.before.before.before.args.levels) c.before.before.before.before.before.before.before.before.before.before.before.args.pile.now c.before.before.before.before.before.before.before.before.before.before.before.args.w c.before.before.before.before.before.before.before.before.before.before.before.requires.1 filled c.before.before.before.before.before.before.seen.ensures _ c.before.before.before.leaf.ensures (omega arith) c.has_left.ensures (omega arith) c.before.before.before.before.before.before.before.before.before.before.before.requires.2
+returns-3 c = λ filled literals message. entered_left (asked c.before.before.before.before.before.before.before.before.before.before.before.args.words.now literals message c.before.before.before.before.before.before.before.before.before.before.before.args.slots.now c.before.before.before.before.before.before.before.before.before.before.before.args.levels) c.before.before.before.before.before.before.before.before.before.before.before.args.pile.now c.before.before.before.before.before.before.before.before.before.before.before.args.w c.before.before.before.before.before.before.before.before.before.before.before.requires.1 filled c.before.before.before.before.before.before.seen.ensures _ c.before.before.before.leaf.ensures (omega arith) c.has_left.ensures (omega arith) c.before.before.before.before.before.before.before.before.before.before.before.requires.2
 
 pub enter_spec : {M : Type 1} → statement M
 enter_spec =

@@ -15,5 +15,5 @@ returns-3 c = rw (le-ltb c.before.before.before.before.args.j 6 (omega arith), l
 returns-4 : tie.Need-returns-4
 returns-4 c = rw (le-ltb c.before.before.before.before.before.args.j 6 (omega arith), lt-leb 8 c.before.before.before.before.before.args.j (omega arith), c.before.if3.false)
 
-pub looks-no-further-spec : {M : Type 1} → statement M
-looks-no-further-spec = tie.close (tie.spec returns returns-2 returns-3 returns-4)
+pub looks_no_further_spec : {M : Type 1} → statement M
+looks_no_further_spec = tie.close (tie.spec returns returns-2 returns-3 returns-4)

@@ -1,4 +1,4 @@
-use Rattle.expressions.proofs.Halves.{resumed-both, resumed-left}
+use Rattle.expressions.proofs.Halves.{resumed_both, resumed_left}
 use borrow.Author.Rules.{rules}
 use Rattle.expressions.proofs.walks.resume.Statement.{statement}
 use Rattle.expressions.proofs.walks.resume.Tie as tie
@@ -28,7 +28,7 @@ has-both-requires : tie.Need-has-both-requires
 has-both-requires c κs = search rules
 
 returns : tie.Need-returns
-returns c = λ A filled. resumed-both A c.before.before.before.before.before.before.args.pile.now c.before.before.before.before.before.before.args.w c.before.before.before.before.before.before.requires.0 c.before.before.before.before.before.before.requires.1 c.before.before.before.before.before.before.requires.2 filled c.Has-both.ensures c.before.if1.true
+returns c = λ A filled. resumed_both A c.before.before.before.before.before.before.args.pile.now c.before.before.before.before.before.before.args.w c.before.before.before.before.before.before.requires.0 c.before.before.before.before.before.before.requires.1 c.before.before.before.before.before.before.requires.2 filled c.Has-both.ensures c.before.if1.true
 
 cast-has-left : tie.Need-overflow-cast-has-left
 cast-has-left c = search rules
@@ -37,10 +37,10 @@ has-left-requires : tie.Need-has-left-requires
 has-left-requires c κs = search rules
 
 returns-2 : tie.Need-returns-2
-returns-2 c = λ A filled. resumed-left A c.before.before.before.before.before.before.args.pile.now c.before.before.before.before.before.before.args.w c.before.before.before.before.before.before.requires.0 c.before.before.before.before.before.before.requires.1 c.before.before.before.before.before.before.requires.2 filled c.has_left.ensures c.before.if1.false
+returns-2 c = λ A filled. resumed_left A c.before.before.before.before.before.before.args.pile.now c.before.before.before.before.before.before.args.w c.before.before.before.before.before.before.requires.0 c.before.before.before.before.before.before.requires.1 c.before.before.before.before.before.before.requires.2 filled c.has_left.ensures c.before.if1.false
 
-pub resume-spec : {M : Type 1} → statement M
-resume-spec =
+pub resume_spec : {M : Type 1} → statement M
+resume_spec =
     tie.close
     (tie.spec
     sub-n

@@ -1,5 +1,5 @@
 use native.Mathlib.Omega.{arith}
-use Rattle.expressions.proofs.Halves.{right-work, right_end, right-both}
+use Rattle.expressions.proofs.Halves.{right_work, right_end, right_both}
 use Rattle.expressions.specs.Walks.{asked}
 use borrow.Author.Rules.{rules}
 use Rattle.expressions.proofs.walks.right.Statement.{statement}
@@ -39,7 +39,7 @@ same_length : tie.Need-same-length
 same_length c = search rules
 
 returns : tie.Need-returns
-returns c = λ filled literals message. right-work (asked c.before.before.before.before.before.before.before.before.before.before.before.before.before.before.before.args.words.now literals message c.before.before.before.before.before.before.before.before.before.before.before.before.before.before.before.args.slots.now c.before.before.before.before.before.before.before.before.before.before.before.before.before.before.before.args.levels) c.before.before.before.before.before.before.before.before.before.before.before.before.before.before.before.args.pile.now c.before.before.before.before.before.before.before.before.before.before.before.before.before.before.before.args.s.top c.before.before.before.before.before.before.before.before.before.before.before.before.before.before.before.args.s.j c.before.before.before.before.before.before.before.before.before.before.before.before.before.before.before.args.s.k c.before.before.before.before.before.before.before.before.before.before.before.before.before.before.before.args.s.b c.before.before.before.before.before.before.before.before.before.before.before.before.before.before.before.args.s.v filled c.before.before.before.before.before.before.before.before.before.seen.ensures c.before.before.put-to-work.ensures c.before.before.before.before.before.before.before.if1.true c.before.before.before.before.before.before.before.before.before.before.before.before.before.before.before.requires.3 (omega arith) (omega arith) c.before.before.before.before.before.before.before.before.before.before.before.before.before.before.before.requires.1 (omega arith)
+returns c = λ filled literals message. right_work (asked c.before.before.before.before.before.before.before.before.before.before.before.before.before.before.before.args.words.now literals message c.before.before.before.before.before.before.before.before.before.before.before.before.before.before.before.args.slots.now c.before.before.before.before.before.before.before.before.before.before.before.before.before.before.before.args.levels) c.before.before.before.before.before.before.before.before.before.before.before.before.before.before.before.args.pile.now c.before.before.before.before.before.before.before.before.before.before.before.before.before.before.before.args.s.top c.before.before.before.before.before.before.before.before.before.before.before.before.before.before.before.args.s.j c.before.before.before.before.before.before.before.before.before.before.before.before.before.before.before.args.s.k c.before.before.before.before.before.before.before.before.before.before.before.before.before.before.before.args.s.b c.before.before.before.before.before.before.before.before.before.before.before.before.before.before.before.args.s.v filled c.before.before.before.before.before.before.before.before.before.seen.ensures c.before.before.put-to-work.ensures c.before.before.before.before.before.before.before.if1.true c.before.before.before.before.before.before.before.before.before.before.before.before.before.before.before.requires.3 (omega arith) (omega arith) c.before.before.before.before.before.before.before.before.before.before.before.before.before.before.before.requires.1 (omega arith)
 
 leaf-requires : tie.Need-leaf-requires
 leaf-requires c κs = search rules
@@ -54,10 +54,10 @@ has-both-requires : tie.Need-has-both-requires
 has-both-requires c κs = search rules
 
 returns-3 : tie.Need-returns-3
-returns-3 c = λ filled literals message. right-both (asked c.before.before.before.before.before.before.before.before.before.before.before.before.args.words.now literals message c.before.before.before.before.before.before.before.before.before.before.before.before.args.slots.now c.before.before.before.before.before.before.before.before.before.before.before.before.args.levels) c.before.before.before.before.before.before.before.before.before.before.before.before.args.pile.now c.before.before.before.before.before.before.before.before.before.before.before.before.args.s.top c.before.before.before.before.before.before.before.before.before.before.before.before.args.s.j c.before.before.before.before.before.before.before.before.before.before.before.before.args.s.k c.before.before.before.before.before.before.before.before.before.before.before.before.args.s.b c.before.before.before.before.before.before.before.before.before.before.before.before.args.s.v filled c.before.before.before.before.before.before.seen.ensures _ c.before.before.before.leaf.ensures (omega arith) c.Has-both.ensures (omega arith)
+returns-3 c = λ filled literals message. right_both (asked c.before.before.before.before.before.before.before.before.before.before.before.before.args.words.now literals message c.before.before.before.before.before.before.before.before.before.before.before.before.args.slots.now c.before.before.before.before.before.before.before.before.before.before.before.before.args.levels) c.before.before.before.before.before.before.before.before.before.before.before.before.args.pile.now c.before.before.before.before.before.before.before.before.before.before.before.before.args.s.top c.before.before.before.before.before.before.before.before.before.before.before.before.args.s.j c.before.before.before.before.before.before.before.before.before.before.before.before.args.s.k c.before.before.before.before.before.before.before.before.before.before.before.before.args.s.b c.before.before.before.before.before.before.before.before.before.before.before.before.args.s.v filled c.before.before.before.before.before.before.seen.ensures _ c.before.before.before.leaf.ensures (omega arith) c.Has-both.ensures (omega arith)
 
-pub right-spec : {M : Type 1} → statement M
-right-spec =
+pub right_spec : {M : Type 1} → statement M
+right_spec =
     tie.close
     (tie.spec
     add-seen

@@ -1,5 +1,5 @@
 use mathlib.Core.Path.{refl}
-use Rattle.expressions.proofs.Halves.{settled-begins, settled-found, settled-both}
+use Rattle.expressions.proofs.Halves.{settled_begins, settled_found, settled_both}
 use Rattle.expressions.specs.Walks.{asked}
 use borrow.Author.Rules.{rules}
 use Rattle.expressions.proofs.walks.settle.Statement.{statement}
@@ -30,19 +30,19 @@ result-requires-3 : tie.Need-result-requires-3
 result-requires-3 c κs = search rules
 
 returns : tie.Need-returns
-returns c = λ words slots levels pile w on. settled-begins (asked words c.before.before.before.before.before.args.literals.now c.before.before.before.before.before.args.message.now slots levels) pile c.before.before.before.before.before.args.s w on c.enum_told.given.1 refl
+returns c = λ words slots levels pile w on. settled_begins (asked words c.before.before.before.before.before.args.literals.now c.before.before.before.before.before.args.message.now slots levels) pile c.before.before.before.before.before.args.s w on c.enum_told.given.1 refl
 
 returns-2 : tie.Need-returns-2
-returns-2 c = λ words slots levels pile w on. settled-found (asked words c.before.before.before.before.before.before.args.literals.now c.before.before.before.before.before.before.args.message.now slots levels) pile c.before.before.before.before.before.before.args.s w on c.before.enum-told2.given.1 c.result.ensures
+returns-2 c = λ words slots levels pile w on. settled_found (asked words c.before.before.before.before.before.before.args.literals.now c.before.before.before.before.before.before.args.message.now slots levels) pile c.before.before.before.before.before.before.args.s w on c.before.enum-told2.given.1 c.result.ensures
 
 returns-3 : tie.Need-returns-3
 returns-3 c = λ words slots levels pile w on. absurd (c.before.before.before.before.before.before.requires c.before.enum-told3.given.1)
 
 returns-4 : tie.Need-returns-4
-returns-4 c = λ words slots levels pile w on. settled-both (asked words c.before.before.before.before.before.before.before.before.args.literals.now c.before.before.before.before.before.before.before.before.args.message.now slots levels) pile c.before.before.before.before.before.before.before.before.args.s w on _ c.before.before.before.enum-told4.given.1 c.result3.ensures c.before.operate-given.ensures
+returns-4 c = λ words slots levels pile w on. settled_both (asked words c.before.before.before.before.before.before.before.before.args.literals.now c.before.before.before.before.before.before.before.before.args.message.now slots levels) pile c.before.before.before.before.before.before.before.before.args.s w on _ c.before.before.before.enum-told4.given.1 c.result3.ensures c.before.operate-given.ensures
 
-pub settle-spec : {M : Type 1} → statement M
-settle-spec =
+pub settle_spec : {M : Type 1} → statement M
+settle_spec =
     tie.close
     (tie.spec
     enum_told

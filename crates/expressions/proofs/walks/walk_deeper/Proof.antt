@@ -1,5 +1,5 @@
 use native.Mathlib.Omega.{arith}
-use Rattle.expressions.proofs.Whole.{long-enough}
+use Rattle.expressions.proofs.Whole.{long_enough}
 use Rattle.expressions.specs.Walks.{asked}
 use borrow.Author.Rules.{rules}
 use Rattle.expressions.proofs.walks.walk_deeper.Statement.{statement}
@@ -18,10 +18,10 @@ walk-on-requires : tie.Need-walk-on-requires
 walk-on-requires c κs = search rules
 
 returns : tie.Need-returns
-returns c = long-enough (asked c.before.before.before.before.before.before.before.before.before.before.before.before.args.words.now c.before.before.before.before.before.before.before.before.before.before.before.before.args.literals.now c.before.before.before.before.before.before.before.before.before.before.before.before.args.message.now c.before.before.before.before.before.before.before.before.before.before.before.before.args.slots.now c.before.before.before.before.before.before.before.before.before.before.before.before.args.levels) c.before.before.before.before.before.before.before.before.before.before.before.before.args.pile.now c.before.before.walk-on.ensures c.before.before.before.before.before.copied.ensures c.before.before.before.before.before.before.before.before.before.before.before.before.requires.2.room c.before.before.before.before.before.before.before.before.before.before.before.before.requires.0 (omega arith)
+returns c = long_enough (asked c.before.before.before.before.before.before.before.before.before.before.before.before.args.words.now c.before.before.before.before.before.before.before.before.before.before.before.before.args.literals.now c.before.before.before.before.before.before.before.before.before.before.before.before.args.message.now c.before.before.before.before.before.before.before.before.before.before.before.before.args.slots.now c.before.before.before.before.before.before.before.before.before.before.before.before.args.levels) c.before.before.before.before.before.before.before.before.before.before.before.before.args.pile.now c.before.before.walk-on.ensures c.before.before.before.before.before.copied.ensures c.before.before.before.before.before.before.before.before.before.before.before.before.requires.2.room c.before.before.before.before.before.before.before.before.before.before.before.before.requires.0 (omega arith)
 
-pub walk-deeper-spec : {M : Type 1} → statement M
-walk-deeper-spec =
+pub walk_deeper_spec : {M : Type 1} → statement M
+walk_deeper_spec =
     tie.close
     (tie.spec
     slice-aggregate-copied

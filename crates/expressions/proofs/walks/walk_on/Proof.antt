@@ -1,15 +1,15 @@
-use Rattle.laws.specs.Pile.{comesTo, weighs}
-use Rattle.expressions.specs.Walks.{asked, Filled, resolvedAt, owedAt, walking}
+use Rattle.laws.specs.Pile.{comes_to, weighs}
+use Rattle.expressions.specs.Walks.{asked, Filled, resolved_at, owed_at, walking}
 use mathlib.Core.Path.{◌≡◌, refl, sym, ◌∙◌}
 use lib.ListN.{length}
 use Rattle.expressions.proofs.walks.walk_on.Statement.{statement}
 use Rattle.expressions.proofs.walks.walk_on.Tie as tie
 
 abbrev invariant-loop : tie.invariant-loop
-invariant-loop words literals message slots levels pile₀ first w₀ pile w = (comesTo (resolvedAt (asked words literals message slots levels)) (walking (asked words literals message slots levels) pile w) ≡ comesTo (resolvedAt (asked words literals message slots levels)) (walking (asked words literals message slots levels) pile₀ w₀)) × Filled levels pile w.top × (length pile ≡ length pile₀)
+invariant-loop words literals message slots levels pile₀ first w₀ pile w = (comes_to (resolved_at (asked words literals message slots levels)) (walking (asked words literals message slots levels) pile w) ≡ comes_to (resolved_at (asked words literals message slots levels)) (walking (asked words literals message slots levels) pile₀ w₀)) × Filled levels pile w.top × (length pile ≡ length pile₀)
 
 abbrev decreases-loop : tie.decreases-loop
-decreases-loop words literals message slots levels pile₀ first w₀ pile w = weighs (owedAt (asked words literals message slots levels)) (walking (asked words literals message slots levels) pile w)
+decreases-loop words literals message slots levels pile₀ first w₀ pile w = weighs (owed_at (asked words literals message slots levels)) (walking (asked words literals message slots levels) pile w)
 
 node-place-requires : tie.Need-node-place-requires invariant-loop decreases-loop
 node-place-requires c κs = tt
@@ -36,8 +36,8 @@ same_length c = c.before.before.loop.invariant.2
 returns : tie.Need-returns invariant-loop decreases-loop
 returns c = record { same = c.before.before.loop.invariant.0; filled = c.before.before.loop.invariant.1; rests = rw c.before.before.loop.invariant.2 at (sym c.before.goes_on.ensures ∙ c.if1.false) }
 
-pub walk-on-spec : {M : Type 1} → statement M
-walk-on-spec =
+pub walk_on_spec : {M : Type 1} → statement M
+walk_on_spec =
     tie.close
     (tie.spec
     invariant-loop

@@ -7,12 +7,12 @@ use native.Mathlib.Omega.{arith}
 use borrow.Author.Rules.{rules}
 use borrow.Author.Tests.{not-true, not-false}
 use lib.ListN.{length}
-use Rattle.grammar.specs.Words.{nodeCount}
-use Rattle.grammar.specs.Form.{fieldSorts}
+use Rattle.grammar.specs.Words.{node_count}
+use Rattle.grammar.specs.Form.{field_sorts}
 use Rattle.form.specs.Sorts.{number_of}
-use Rattle.form.specs.Scan.{recordStart, recordSort, Scanned}
-use Rattle.form.proofs.Rows.{fieldNumbers, row-few}
-use Rattle.form.proofs.Places.{start-zero, start-end, start-next, record-in}
+use Rattle.form.specs.Scan.{record_start, record_sort, Scanned}
+use Rattle.form.proofs.Rows.{field_numbers, row_few}
+use Rattle.form.proofs.Places.{start_zero, start_end, start_next, record_in}
 use Rattle.form.proofs.Seen.{Seen, seen_none, room, at_all}
 use Rattle.form.proofs.Asked.{judged}
 use Rattle.form.proofs.fields.first_bad.Statement.{statement}
@@ -25,7 +25,7 @@ abbrev decreases-loop : tie.decreases-loop
 decreases-loop words counts₀ rows rules nodes records q start size bound row j₀ counts j = size - j
 
 abbrev invariant-records : tie.invariant-records
-invariant-records words counts₀ rows rules nodes records q₀ start₀ counts q start = (q ≤ records) × (start ≡ recordStart rules q) × Seen words counts start × (rows ≡ fieldNumbers)
+invariant-records words counts₀ rows rules nodes records q₀ start₀ counts q start = (q ≤ records) × (start ≡ record_start rules q) × Seen words counts start × (rows ≡ field_numbers)
 
 abbrev decreases-records : tie.decreases-records
 decreases-records words counts₀ rows rules nodes records q₀ start₀ counts q start = records - q
@@ -37,7 +37,7 @@ inside : (c : tie.After-record-length invariant-loop decreases-loop invariant-re
     (3 ≤ o.records.start) × (1 ≤ c.record-length.result) × (o.records.start + c.record-length.result ≤ length w) × (length w < 20000)
 inside c =
     let o = c.before.before in
-    omega (arith, record-in o.before.before.rule-count.result o.records.q o.before.node-count.result (omega arith))
+    omega (arith, record_in o.before.before.rule-count.result o.records.q o.before.node-count.result (omega arith))
 
 -- after the test of a word: a right one has been seen, and a bad one ends the scan
 after : (c : tie.After-word-ok invariant-loop decreases-loop invariant-records decreases-records)
@@ -55,7 +55,7 @@ after c =
     let rules = o.before.before.rule-count in
     let row = l.before.row_of in
     let own = c.before.before.before.record-sort in
-    let its_own = own.ensures ∙ ap (λ (rows : List (List ℕ)). recordSort rows rules.result o.records.q row.result l.loop.j) o.records.invariant.3 in
+    let its_own = own.ensures ∙ ap (λ (rows : List (List ℕ)). record_sort rows rules.result o.records.q row.result l.loop.j) o.records.invariant.3 in
     let bound = l.before.before.before.record-bound in
     let fit = inside r in
     judged o.before.before.before.before.args.words.now rules.result o.records.q l.loop.j o.records.start row.result own.result
@@ -73,8 +73,8 @@ add-records c = search rules
 
 -- the code's constant table is the specs' table of sorts
 records-holds : tie.Need-records-init invariant-loop decreases-loop invariant-records decreases-records
-unfolding fieldSorts number_of
-records-holds c = (omega arith, start-zero _, seen_none _ _ c.before.before.before.requires.1, refl)
+unfolding field_sorts number_of
+records-holds c = (omega arith, start_zero _, seen_none _ _ c.before.before.before.requires.1, refl)
 
 record-length-requires : tie.Need-record-length-requires invariant-loop decreases-loop invariant-records decreases-records
 record-length-requires c κs = search rules
@@ -104,14 +104,14 @@ add-i : tie.Need-overflow-add-i invariant-loop decreases-loop invariant-records 
 add-i c = omega (arith, inside c.before.before.before.before.before)
 
 record-sort-requires : tie.Need-record-sort-requires invariant-loop decreases-loop invariant-records decreases-records
-record-sort-requires c κs = (rw c.before.before.before.row_of.ensures (row-few _), omega arith)
+record-sort-requires c κs = (rw c.before.before.before.row_of.ensures (row_few _), omega arith)
 
 mul-word-ok : tie.Need-overflow-mul-word-ok invariant-loop decreases-loop invariant-records decreases-records
 mul-word-ok c = omega (arith, inside c.before.before.before.before.before.before.before.before)
 
-shared-slice-read-word-ok :
+shared_slice_read_word_ok :
     tie.Need-shared-slice-read-word-ok invariant-loop decreases-loop invariant-records decreases-records
-shared-slice-read-word-ok c = omega (arith, inside c.before.before.before.before.before.before.before.before.before)
+shared_slice_read_word_ok c = omega (arith, inside c.before.before.before.before.before.before.before.before.before)
 
 word-ok-requires : tie.Need-word-ok-requires invariant-loop decreases-loop invariant-records decreases-records
 word-ok-requires c κs =
@@ -152,7 +152,7 @@ records-again c =
     let o = c.before.before.before.before.before.before.before in
     let e : c.before.loop.j ≡ z.result = omega arith in (
       omega arith,
-      rw (o.records.invariant.1, z.ensures) (start-next o.before.before.rule-count.result o.records.q),
+      rw (o.records.invariant.1, z.ensures) (start_next o.before.before.rule-count.result o.records.q),
       rw e at c.before.loop.invariant.1,
       o.records.invariant.3,
     )
@@ -162,15 +162,15 @@ returns c =
     let o = c.before.records in
     let w = c.before.before.before.before.before.args.words.now in
     let R = c.before.before.before.rule-count.result in
-    let end : o.q ≡ R + nodeCount w = omega arith in
-    let all : o.start ≡ length w = omega (arith, ap (recordStart R) end, start-end R (nodeCount w)) in
+    let end : o.q ≡ R + node_count w = omega arith in
+    let all : o.start ≡ length w = omega (arith, ap (record_start R) end, start_end R (node_count w)) in
     at_all w o.counts o.start (omega arith) o.invariant.2 all
 
 returns-2 : tie.Need-returns-2 invariant-loop decreases-loop invariant-records decreases-records
 returns-2 c = (after c.before).1 (not-true _ c.if2.true)
 
-pub first-bad-spec : {M : Type 1} → statement M
-first-bad-spec =
+pub first_bad_spec : {M : Type 1} → statement M
+first_bad_spec =
     tie.close
     (tie.spec
     invariant-loop
@@ -191,7 +191,7 @@ first-bad-spec =
     add-i
     record-sort-requires
     mul-word-ok
-    shared-slice-read-word-ok
+    shared_slice_read_word_ok
     word-ok-requires
     add-j
     loop-less

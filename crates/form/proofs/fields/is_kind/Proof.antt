@@ -15,5 +15,5 @@ returns c = rw (sym c.before.between.ensures ∙ c.if1.true)
 returns-2 : tie.Need-returns-2
 returns-2 c = rw (sym c.before.before.between.ensures ∙ c.before.if1.false) c.between2.ensures
 
-pub is-kind-spec : {M : Type 1} → statement M
-is-kind-spec = tie.close (tie.spec between-requires between-requires-2 returns returns-2)
+pub is_kind_spec : {M : Type 1} → statement M
+is_kind_spec = tie.close (tie.spec between-requires between-requires-2 returns returns-2)

@@ -15,5 +15,5 @@ returns c = rw (lt-ltb _ _ c.before.before.if1.true, ← c.before.kind_at.ensure
 returns-2 : tie.Need-returns-2
 returns-2 c = rw (le-ltb _ _ c.if1.false)
 
-pub is-part-spec : {M : Type 1} → statement M
-is-part-spec = tie.close (tie.spec kind-at-requires between-requires returns returns-2)
+pub is_part_spec : {M : Type 1} → statement M
+is_part_spec = tie.close (tie.spec kind-at-requires between-requires returns returns-2)

@@ -1,5 +1,5 @@
-use Rattle.form.proofs.Force.{passes-zero}
-use Rattle.form.specs.Sorts.{passes, plainSorts}
+use Rattle.form.proofs.Force.{passes_zero}
+use Rattle.form.specs.Sorts.{passes, plain_sorts}
 use Rattle.grammar.specs.Form.{fits}
 use borrow.Author.Rules.{rules}
 use Rattle.form.proofs.fields.passes.Statement.{statement}
@@ -42,58 +42,58 @@ is-kind-requires : tie.Need-is-kind-requires
 is-kind-requires c κs = search rules
 
 returns : tie.Need-returns
-unfolding passes plainSorts fits
+unfolding passes plain_sorts fits
 returns c = rw c.match.keys1
 
 returns-2 : tie.Need-returns-2
-unfolding passes plainSorts fits
+unfolding passes plain_sorts fits
 returns-2 c = rw c.match.keys2
 
 returns-3 : tie.Need-returns-3
-unfolding passes plainSorts fits
+unfolding passes plain_sorts fits
 returns-3 c = rw c.match.keys3
 
 returns-4 : tie.Need-returns-4
-unfolding passes plainSorts fits
+unfolding passes plain_sorts fits
 returns-4 c = rw c.before.match.keys4 c.is-part.ensures
 
 returns-5 : tie.Need-returns-5
-unfolding passes plainSorts fits
+unfolding passes plain_sorts fits
 returns-5 c = rw c.before.match.keys5 c.is-part2.ensures
 
 returns-6 : tie.Need-returns-6
-unfolding passes plainSorts fits
+unfolding passes plain_sorts fits
 returns-6 c = rw (c.before.match.keys6, c.rule-count.ensures)
 
 returns-7 : tie.Need-returns-7
-unfolding passes plainSorts fits
+unfolding passes plain_sorts fits
 returns-7 c = rw c.match.keys7
 
 returns-8 : tie.Need-returns-8
-unfolding passes plainSorts fits
+unfolding passes plain_sorts fits
 returns-8 c = rw (c.before.match.keys8, c.literal-count.ensures)
 
 returns-9 : tie.Need-returns-9
-unfolding passes plainSorts fits
+unfolding passes plain_sorts fits
 returns-9 c = rw (c.before.before.match.keys9, c.literal-count2.ensures, c.before.word_at.ensures)
 
 returns-10 : tie.Need-returns-10
-unfolding passes plainSorts fits
+unfolding passes plain_sorts fits
 returns-10 c = rw c.match.keys10
 
 returns-11 : tie.Need-returns-11
-unfolding passes plainSorts
+unfolding passes plain_sorts
 returns-11 c = rw c.before.match.keys11 c.between.ensures
 
 returns-12 : tie.Need-returns-12
-unfolding passes plainSorts
+unfolding passes plain_sorts
 returns-12 c = rw c.before.match.keys12 c.is-kind.ensures
 
 returns-13 : tie.Need-returns-13
-returns-13 c = search (passes-zero, rules)
+returns-13 c = search (passes_zero, rules)
 
-pub passes-spec : {M : Type 1} → statement M
-passes-spec =
+pub passes_spec : {M : Type 1} → statement M
+passes_spec =
     tie.close
     (tie.spec
     is-part-requires

@@ -25,7 +25,7 @@ count-use-requires c κs = search rules
 returns-3 : tie.Need-returns-3
 returns-3 c = (cc (not-false c.before.before.before.passes.result c.before.before.if2.false), cc)
 
-pub word-ok-spec : {M : Type 1} → statement M
-word-ok-spec =
+pub word_ok_spec : {M : Type 1} → statement M
+word_ok_spec =
     tie.close
     (tie.spec returns in-force-requires passes-requires returns-2 count-use-requires returns-3)

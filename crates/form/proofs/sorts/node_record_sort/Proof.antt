@@ -24,6 +24,6 @@ returns-2 : tie.Need-returns-2
 unfolding in_row
 returns-2 c = rw (ne_eqb _ _ c.before.if1.false)
 
-pub node-record-sort-spec : {M : Type 1} → statement M
-node-record-sort-spec =
+pub node_record_sort_spec : {M : Type 1} → statement M
+node_record_sort_spec =
     tie.close (tie.spec returns sub-result mul-result index-1-result index-2-result returns-2)

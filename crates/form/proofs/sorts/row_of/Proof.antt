@@ -11,5 +11,5 @@ returns-2 : tie.Need-returns-2
 unfolding row_of
 returns-2 c = rw (le-ltb _ _ c.if1.false)
 
-pub row-of-spec : {M : Type 1} → statement M
-row-of-spec = tie.close (tie.spec returns returns-2)
+pub row_of_spec : {M : Type 1} → statement M
+row_of_spec = tie.close (tie.spec returns returns-2)

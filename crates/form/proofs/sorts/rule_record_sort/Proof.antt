@@ -1,5 +1,5 @@
 use Rattle.form.specs.Sorts.{number_of}
-use Rattle.grammar.specs.Form.{ruleSorts}
+use Rattle.grammar.specs.Form.{rule_sorts}
 use mathlib.Core.Path.{refl}
 use borrow.Author.Rules.{rules}
 use Rattle.form.proofs.sorts.rule_record_sort.Statement.{statement}
@@ -9,8 +9,8 @@ array-read-result : tie.Need-array-read-result
 array-read-result c = search rules
 
 returns : tie.Need-returns
-unfolding ruleSorts number_of
+unfolding rule_sorts number_of
 returns c = refl
 
-pub rule-record-sort-spec : {M : Type 1} → statement M
-rule-record-sort-spec = tie.close (tie.spec array-read-result returns)
+pub rule_record_sort_spec : {M : Type 1} → statement M
+rule_record_sort_spec = tie.close (tie.spec array-read-result returns)

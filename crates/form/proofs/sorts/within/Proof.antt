@@ -8,5 +8,5 @@ returns c = rw (lt-ltb _ _ c.if1.true)
 returns-2 : tie.Need-returns-2
 returns-2 c = rw (le-ltb _ _ c.if1.false)
 
-pub within-spec : {M : Type 1} → statement M
-within-spec = tie.close (tie.spec returns returns-2)
+pub within_spec : {M : Type 1} → statement M
+within_spec = tie.close (tie.spec returns returns-2)

@@ -1,5 +1,5 @@
 use borrow.Author.Tests.{lt-ltb, le-ltb}
-use Rattle.form.specs.Scan.{oneMore}
+use Rattle.form.specs.Scan.{one_more}
 use mathlib.Core.Path.{sym, ◌∙◌}
 use borrow.Author.Rules.{rules}
 use Rattle.form.proofs.uses.count_use.Statement.{statement}
@@ -24,19 +24,19 @@ element-write-counts : tie.Need-element-write-counts
 element-write-counts c = search rules
 
 returns : tie.Need-returns
-unfolding oneMore
+unfolding one_more
 returns c = rw (sym c.before.before.before.is-node.ensures ∙ c.before.before.if1.true, lt-ltb _ _ c.before.if2.true)
 
 returns-2 : tie.Need-returns-2
-unfolding oneMore
+unfolding one_more
 returns-2 c = rw (sym c.before.before.is-node.ensures ∙ c.before.if1.true, le-ltb _ _ c.if2.false)
 
 returns-3 : tie.Need-returns-3
-unfolding oneMore
+unfolding one_more
 returns-3 c = rw (sym c.before.is-node.ensures ∙ c.if1.false)
 
-pub count-use-spec : {M : Type 1} → statement M
-count-use-spec =
+pub count_use_spec : {M : Type 1} → statement M
+count_use_spec =
     tie.close
     (tie.spec
     is-node-requires

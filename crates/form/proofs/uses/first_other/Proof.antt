@@ -8,7 +8,7 @@ use borrow.Author.Rules.{rules}
 use borrow.Author.Tests.{eq-eqb, ne_eqb, lt-ltb, le-ltb}
 use lib.Dec.{eqb}
 use lib.ListN.{get_or}
-use Rattle.laws.specs.Smallest.{smallest-at, smallest-none}
+use Rattle.laws.specs.Smallest.{smallest_at, smallest_none}
 use Rattle.form.proofs.uses.first_other.Statement.{statement}
 use Rattle.form.proofs.uses.first_other.Tie as tie
 
@@ -36,7 +36,7 @@ returns c =
     let l = o.before.args.counts.now in
     let k = o.loop.k in
     rw (lt-ltb k o.before.args.n (omega arith))
-    (sym (smallest-at (λ m. eqb (get_or l m 0) 1) 0 o.before.args.n k (omega arith) (omega arith) (λ m low h. o.loop.invariant.1 m h) (ne_eqb (get_or l k 0) 1 c.if1.true)))
+    (sym (smallest_at (λ m. eqb (get_or l m 0) 1) 0 o.before.args.n k (omega arith) (omega arith) (λ m low h. o.loop.invariant.1 m h) (ne_eqb (get_or l k 0) 1 c.if1.true)))
 
 add-k : tie.Need-overflow-add-k invariant-loop decreases-loop
 add-k c = search rules
@@ -56,10 +56,10 @@ returns-2 c =
     let o = c.before in
     let l = o.before.args.counts.now in
     let n = o.before.args.n in
-    rw (le-ltb n n (omega arith)) (sym (smallest-none (λ m. eqb (get_or l m 0) 1) 0 n (λ m low h. o.loop.invariant.1 m (omega arith))))
+    rw (le-ltb n n (omega arith)) (sym (smallest_none (λ m. eqb (get_or l m 0) 1) 0 n (λ m low h. o.loop.invariant.1 m (omega arith))))
 
-pub first-other-spec : {M : Type 1} → statement M
-first-other-spec =
+pub first_other_spec : {M : Type 1} → statement M
+first_other_spec =
     tie.close
     (tie.spec
     invariant-loop

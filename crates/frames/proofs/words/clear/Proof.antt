@@ -1,4 +1,4 @@
-use Rattle.frames.proofs.Laws.{cleared-all}
+use Rattle.frames.proofs.Laws.{cleared_all}
 use native.Mathlib.Omega.{arith}
 use mathlib.Core.Path.{sym, ◌∙◌}
 use borrow.Author.Rules.{rules}
@@ -12,7 +12,7 @@ same_length : tie.Need-same-length
 same_length c = search rules
 
 returns : tie.Need-returns
-returns c = c.before.before.clear-inside.ensures ∙ sym (cleared-all c.before.before.before.before.before.before.args.words.now c.before.before.before.before.before.before.args.n (omega arith))
+returns c = c.before.before.clear-inside.ensures ∙ sym (cleared_all c.before.before.before.before.before.before.args.words.now c.before.before.before.before.before.before.args.n (omega arith))
 
 clear-inside-requires-2 : tie.Need-clear-inside-requires-2
 clear-inside-requires-2 c κs = search rules

@@ -38,8 +38,8 @@ same_length c = c.before.loop.invariant.2
 returns : tie.Need-returns invariant-loop decreases-loop
 returns c = c.before.loop.invariant.1 ∙ ap (cleared c.before.before.args.words.now) (omega arith)
 
-pub clear-inside-spec : {M : Type 1} → statement M
-clear-inside-spec =
+pub clear_inside_spec : {M : Type 1} → statement M
+clear_inside_spec =
     tie.close
     (tie.spec
     invariant-loop

@@ -44,8 +44,8 @@ same_length c = c.before.loop.invariant.2
 returns : tie.Need-returns invariant-loop decreases-loop
 returns c = c.before.loop.invariant.1 ∙ ap (copied c.before.before.before.args.words.now c.before.before.before.args.from c.before.before.before.args.to) (omega arith)
 
-pub copy-across-spec : {M : Type 1} → statement M
-copy-across-spec =
+pub copy_across_spec : {M : Type 1} → statement M
+copy_across_spec =
     tie.close
     (tie.spec
     invariant-loop

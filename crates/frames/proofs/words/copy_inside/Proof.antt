@@ -1,4 +1,4 @@
-use Rattle.frames.proofs.Laws.{copied-apart}
+use Rattle.frames.proofs.Laws.{copied_apart}
 use mathlib.Core.Path.{◌∙◌}
 use native.Mathlib.Omega.{arith}
 use borrow.Author.Rules.{rules}
@@ -18,7 +18,7 @@ returns : tie.Need-returns
 returns c =
     let a = c.before.before.before.before.before.before.before.args in
     let t = c.before.before.before.before.taken in
-    c.before.before.put.ensures ∙ copied-apart a.words.now a.from a.to t.result t.ensures (omega arith) 32 (omega arith)
+    c.before.before.put.ensures ∙ copied_apart a.words.now a.from a.to t.result t.ensures (omega arith) 32 (omega arith)
 
-pub copy-inside-spec : {M : Type 1} → statement M
-copy-inside-spec = tie.close (tie.spec taken-requires put-requires same_length returns)
+pub copy_inside_spec : {M : Type 1} → statement M
+copy_inside_spec = tie.close (tie.spec taken-requires put-requires same_length returns)

@@ -49,8 +49,8 @@ loop-again c =
 returns : tie.Need-returns invariant-loop decreases-loop
 returns c = record { at = λ i h. c.before.loop.invariant.2 i (omega arith) }
 
-pub taken-spec : {M : Type 1} → statement M
-taken-spec =
+pub taken_spec : {M : Type 1} → statement M
+taken_spec =
     tie.close
     (tie.spec
     invariant-loop

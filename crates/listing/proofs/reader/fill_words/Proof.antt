@@ -1,4 +1,4 @@
-use Rattle.text.proofs.Taking.{wrote-took}
+use Rattle.text.proofs.Taking.{wrote_took}
 use Rattle.text.proofs.Writing.{wrote_then}
 use native.Mathlib.Omega.{arith}
 use borrow.Author.Rules.{rules}
@@ -39,10 +39,10 @@ same_length c = search rules
 
 -- src/reader.rt:182:1
 returns : tie.Need-returns
-returns c = wrote-took (omega arith) (wrote_then (omega arith) (wrote_then (omega arith) c.before.before.before.before.before.before.before.before.before.before.before.before.before.before.store.ensures c.before.before.before.before.before.before.before.before.before.before.store2.ensures) c.before.before.before.before.before.before.store3.ensures) c.before.before.read-body.ensures
+returns c = wrote_took (omega arith) (wrote_then (omega arith) (wrote_then (omega arith) c.before.before.before.before.before.before.before.before.before.before.before.before.before.before.store.ensures c.before.before.before.before.before.before.before.before.before.before.store2.ensures) c.before.before.before.before.before.before.store3.ensures) c.before.before.read-body.ensures
 
-pub fill-words-spec : {M : Type 1} → statement M
-fill-words-spec =
+pub fill_words_spec : {M : Type 1} → statement M
+fill_words_spec =
     tie.close
     (tie.spec
     cast-store

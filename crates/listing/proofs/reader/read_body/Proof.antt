@@ -1,7 +1,7 @@
 use Prim.Native.Nat.{◌+◌}
-use Rattle.listing.proofs.Steps.{body-wrong, body-nodes, ended-wrong, ended-right, ended-before}
-use Rattle.listing.proofs.Found.{lines-found}
-use Rattle.text.proofs.Taking.{took-as, took-to, took-wrote, wrote-took}
+use Rattle.listing.proofs.Steps.{body_wrong, body_nodes, ended_wrong, ended_right, ended_before}
+use Rattle.listing.proofs.Found.{lines_found}
+use Rattle.text.proofs.Taking.{took_as, took_to, took_wrote, wrote_took}
 use native.Mathlib.Omega.{arith}
 use mathlib.Core.Path.{sym, ◌∙◌}
 use borrow.Author.Rules.{rules}
@@ -30,7 +30,7 @@ same_length c = search rules
 
 -- src/reader.rt:168:9
 returns : tie.Need-returns
-returns c = took-as (body-wrong _ _ _ _ _ _ c.before.before.before.before.read-lines.ensures.found-is _ c.enum_told.given.1) (took-to c.before.before.before.before.read-lines.ensures c.enum_told.given.1)
+returns c = took_as (body_wrong _ _ _ _ _ _ c.before.before.before.before.read-lines.ensures.found_is _ c.enum_told.given.1) (took_to c.before.before.before.before.read-lines.ensures c.enum_told.given.1)
 
 -- src/reader.rt:170:23
 mul_next : tie.Need-overflow-mul-next
@@ -66,7 +66,7 @@ same-length-2 c = search rules
 
 -- src/reader.rt:173:9
 returns-2 : tie.Need-returns-2
-returns-2 c = took-as (body-nodes _ _ _ _ _ _ c.before.before.before.before.before.before.before.before.before.before.before.before.read-lines.ensures.found-is _ c.before.before.before.before.before.before.before.before.first.given.1) (wrote-took (omega arith) (took-wrote c.before.before.before.before.before.before.before.before.before.before.before.before.read-lines.ensures (omega (arith, (lines-found _ _ _ _ _ _ _ (sym c.before.before.before.before.before.before.before.before.before.before.before.before.read-lines.ensures.found-is ∙ c.before.before.before.before.before.before.before.before.first.given.1)).count))) (took-to c.before.before.before.before.read-lines2.ensures (c.enum-told2.given.1 ∙ ended-before c.before.before.before.before.before.before.before.before.before.before.before.before.before.before.before.before.before.args.text.now (c.before.before.before.before.before.before.before.before.before.before.before.before.before.before.before.before.before.args.number + c.before.before.before.before.before.before.before.before.before.before.before.before.before.before.before.before.before.args.rules + c.before.before.before.before.before.before.before.before.before.before.before.before.before.before.before.before.before.args.nodes) _ (sym c.before.before.before.before.read-lines2.ensures.found-is ∙ c.enum-told2.given.1))))
+returns-2 c = took_as (body_nodes _ _ _ _ _ _ c.before.before.before.before.before.before.before.before.before.before.before.before.read-lines.ensures.found_is _ c.before.before.before.before.before.before.before.before.first.given.1) (wrote_took (omega arith) (took_wrote c.before.before.before.before.before.before.before.before.before.before.before.before.read-lines.ensures (omega (arith, (lines_found _ _ _ _ _ _ _ (sym c.before.before.before.before.before.before.before.before.before.before.before.before.read-lines.ensures.found_is ∙ c.before.before.before.before.before.before.before.before.first.given.1)).count))) (took_to c.before.before.before.before.read-lines2.ensures (c.enum-told2.given.1 ∙ ended_before c.before.before.before.before.before.before.before.before.before.before.before.before.before.before.before.before.before.args.text.now (c.before.before.before.before.before.before.before.before.before.before.before.before.before.before.before.before.before.args.number + c.before.before.before.before.before.before.before.before.before.before.before.before.before.before.before.before.before.args.rules + c.before.before.before.before.before.before.before.before.before.before.before.before.before.before.before.before.before.args.nodes) _ (sym c.before.before.before.before.read-lines2.ensures.found_is ∙ c.enum-told2.given.1))))
 
 -- src/reader.rt:176:29
 add-t27 : tie.Need-overflow-add-t27
@@ -82,7 +82,7 @@ same-length-3 c = search rules
 
 -- src/reader.rt:176:9
 returns-3 : tie.Need-returns-3
-returns-3 c = took-as (body-nodes _ _ _ _ _ _ c.before.before.before.before.before.before.before.before.before.before.before.before.before.before.read-lines.ensures.found-is _ c.before.before.before.before.before.before.before.before.before.before.first.given.1) (wrote-took (omega arith) (took-wrote c.before.before.before.before.before.before.before.before.before.before.before.before.before.before.read-lines.ensures (omega (arith, (lines-found _ _ _ _ _ _ _ (sym c.before.before.before.before.before.before.before.before.before.before.before.before.before.before.read-lines.ensures.found-is ∙ c.before.before.before.before.before.before.before.before.before.before.first.given.1)).count))) (took-to c.before.before.before.before.before.before.read-lines2.ensures (ended-wrong c.before.before.before.before.before.before.before.before.before.before.before.before.before.before.before.before.before.before.before.args.text.now (c.before.before.before.before.before.before.before.before.before.before.before.before.before.before.before.before.before.before.before.args.number + c.before.before.before.before.before.before.before.before.before.before.before.before.before.before.before.before.before.before.before.args.rules + c.before.before.before.before.before.before.before.before.before.before.before.before.before.before.before.before.before.before.before.args.nodes) _ (sym c.before.before.before.before.before.before.read-lines2.ensures.found-is ∙ c.before.before.second.given.1) c.if1.true)))
+returns-3 c = took_as (body_nodes _ _ _ _ _ _ c.before.before.before.before.before.before.before.before.before.before.before.before.before.before.read-lines.ensures.found_is _ c.before.before.before.before.before.before.before.before.before.before.first.given.1) (wrote_took (omega arith) (took_wrote c.before.before.before.before.before.before.before.before.before.before.before.before.before.before.read-lines.ensures (omega (arith, (lines_found _ _ _ _ _ _ _ (sym c.before.before.before.before.before.before.before.before.before.before.before.before.before.before.read-lines.ensures.found_is ∙ c.before.before.before.before.before.before.before.before.before.before.first.given.1)).count))) (took_to c.before.before.before.before.before.before.read-lines2.ensures (ended_wrong c.before.before.before.before.before.before.before.before.before.before.before.before.before.before.before.before.before.before.before.args.text.now (c.before.before.before.before.before.before.before.before.before.before.before.before.before.before.before.before.before.before.before.args.number + c.before.before.before.before.before.before.before.before.before.before.before.before.before.before.before.before.before.before.before.args.rules + c.before.before.before.before.before.before.before.before.before.before.before.before.before.before.before.before.before.before.before.args.nodes) _ (sym c.before.before.before.before.before.before.read-lines2.ensures.found_is ∙ c.before.before.second.given.1) c.if1.true)))
 
 -- src/reader.rt:154:1
 same-length-4 : tie.Need-same-length-4
@@ -90,10 +90,10 @@ same-length-4 c = search rules
 
 -- src/reader.rt:154:1
 returns-4 : tie.Need-returns-4
-returns-4 c = took-as (body-nodes _ _ _ _ _ _ c.before.before.before.before.before.before.before.before.before.before.before.before.before.before.read-lines.ensures.found-is _ c.before.before.before.before.before.before.before.before.before.before.first.given.1) (wrote-took (omega arith) (took-wrote c.before.before.before.before.before.before.before.before.before.before.before.before.before.before.read-lines.ensures (omega (arith, (lines-found _ _ _ _ _ _ _ (sym c.before.before.before.before.before.before.before.before.before.before.before.before.before.before.read-lines.ensures.found-is ∙ c.before.before.before.before.before.before.before.before.before.before.first.given.1)).count))) (took-to c.before.before.before.before.before.before.read-lines2.ensures (ended-right c.before.before.before.before.before.before.before.before.before.before.before.before.before.before.before.before.before.before.before.args.text.now (c.before.before.before.before.before.before.before.before.before.before.before.before.before.before.before.before.before.before.before.args.number + c.before.before.before.before.before.before.before.before.before.before.before.before.before.before.before.before.before.before.before.args.rules + c.before.before.before.before.before.before.before.before.before.before.before.before.before.before.before.before.before.before.before.args.nodes) _ (sym c.before.before.before.before.before.before.read-lines2.ensures.found-is ∙ c.before.before.second.given.1) c.if1.false)))
+returns-4 c = took_as (body_nodes _ _ _ _ _ _ c.before.before.before.before.before.before.before.before.before.before.before.before.before.before.read-lines.ensures.found_is _ c.before.before.before.before.before.before.before.before.before.before.first.given.1) (wrote_took (omega arith) (took_wrote c.before.before.before.before.before.before.before.before.before.before.before.before.before.before.read-lines.ensures (omega (arith, (lines_found _ _ _ _ _ _ _ (sym c.before.before.before.before.before.before.before.before.before.before.before.before.before.before.read-lines.ensures.found_is ∙ c.before.before.before.before.before.before.before.before.before.before.first.given.1)).count))) (took_to c.before.before.before.before.before.before.read-lines2.ensures (ended_right c.before.before.before.before.before.before.before.before.before.before.before.before.before.before.before.before.before.before.before.args.text.now (c.before.before.before.before.before.before.before.before.before.before.before.before.before.before.before.before.before.before.before.args.number + c.before.before.before.before.before.before.before.before.before.before.before.before.before.before.before.before.before.before.before.args.rules + c.before.before.before.before.before.before.before.before.before.before.before.before.before.before.before.before.before.before.before.args.nodes) _ (sym c.before.before.before.before.before.before.read-lines2.ensures.found_is ∙ c.before.before.second.given.1) c.if1.false)))
 
-pub read-body-spec : {M : Type 1} → statement M
-read-body-spec =
+pub read_body_spec : {M : Type 1} → statement M
+read_body_spec =
     tie.close
     (tie.spec
     slice-aggregate-read-lines

@@ -1,5 +1,5 @@
-use Rattle.listing.proofs.Steps.{count-at-wrong, count_at, number-outside, number-inside}
-use Rattle.listing.specs.Reading.{numberWithin}
+use Rattle.listing.proofs.Steps.{count_at_wrong, count_at_lem, number_outside, number_inside}
+use Rattle.listing.specs.Reading.{number_within}
 use borrow.Author.Tests.{not-true, not-false}
 use mathlib.Core.Path.{sym, ap, ◌∙◌}
 use borrow.Author.Rules.{rules}
@@ -20,7 +20,7 @@ enum_told c = search rules
 
 -- src/reader.rt:108:9
 returns : tie.Need-returns
-returns c = count-at-wrong _ _ _ _ _ _ c.before.before.after-key.ensures c.enum_told.given.1
+returns c = count_at_wrong _ _ _ _ _ _ c.before.before.after-key.ensures c.enum_told.given.1
 
 -- src/reader.rt:110:9
 read-number-requires : tie.Need-read-number-requires
@@ -36,7 +36,7 @@ enum-told-2 c = search rules
 
 -- src/reader.rt:112:9
 returns-2 : tie.Need-returns-2
-returns-2 c = ap (numberWithin c.before.before.before.before.before.before.before.before.before.args.low c.before.before.before.before.before.before.before.before.before.args.high) (sym c.enum-told2.given.1) ∙ count_at _ _ _ _ _ _ c.before.before.before.before.before.before.after-key.ensures _ _ c.before.before.before.before.p.given.1 c.before.before.read_number.ensures
+returns-2 c = ap (number_within c.before.before.before.before.before.before.before.before.before.args.low c.before.before.before.before.before.before.before.before.before.args.high) (sym c.enum-told2.given.1) ∙ count_at_lem _ _ _ _ _ _ c.before.before.before.before.before.before.after-key.ensures _ _ c.before.before.before.before.p.given.1 c.before.before.read_number.ensures
 
 -- src/reader.rt:114:29
 cast-in-range : tie.Need-overflow-cast-in-range
@@ -48,14 +48,14 @@ in-range-requires c κs = search rules
 
 -- src/reader.rt:115:9
 returns-3 : tie.Need-returns-3
-returns-3 c = number-outside _ _ c.before.before.before.found.given.0.0 c.before.before.before.found.given.0.1.0 (sym c.before.in-range.ensures ∙ not-true c.before.in-range.result c.if1.true) ∙ ap (numberWithin c.before.before.before.before.before.before.before.before.before.before.before.before.args.low c.before.before.before.before.before.before.before.before.before.before.before.before.args.high) (sym c.before.before.before.found.given.1) ∙ count_at _ _ _ _ _ _ c.before.before.before.before.before.before.before.before.before.after-key.ensures _ _ c.before.before.before.before.before.before.before.p.given.1 c.before.before.before.before.before.read_number.ensures
+returns-3 c = number_outside _ _ c.before.before.before.found.given.0.0 c.before.before.before.found.given.0.1.0 (sym c.before.in-range.ensures ∙ not-true c.before.in-range.result c.if1.true) ∙ ap (number_within c.before.before.before.before.before.before.before.before.before.before.before.before.args.low c.before.before.before.before.before.before.before.before.before.before.before.before.args.high) (sym c.before.before.before.found.given.1) ∙ count_at_lem _ _ _ _ _ _ c.before.before.before.before.before.before.before.before.before.after-key.ensures _ _ c.before.before.before.before.before.before.before.p.given.1 c.before.before.before.before.before.read_number.ensures
 
 -- src/reader.rt:104:1
 returns-4 : tie.Need-returns-4
-returns-4 c = number-inside _ _ c.before.before.before.found.given.0.0 c.before.before.before.found.given.0.1.0 (sym c.before.in-range.ensures ∙ not-false c.before.in-range.result c.if1.false) ∙ ap (numberWithin c.before.before.before.before.before.before.before.before.before.before.before.before.args.low c.before.before.before.before.before.before.before.before.before.before.before.before.args.high) (sym c.before.before.before.found.given.1) ∙ count_at _ _ _ _ _ _ c.before.before.before.before.before.before.before.before.before.after-key.ensures _ _ c.before.before.before.before.before.before.before.p.given.1 c.before.before.before.before.before.read_number.ensures
+returns-4 c = number_inside _ _ c.before.before.before.found.given.0.0 c.before.before.before.found.given.0.1.0 (sym c.before.in-range.ensures ∙ not-false c.before.in-range.result c.if1.false) ∙ ap (number_within c.before.before.before.before.before.before.before.before.before.before.before.before.args.low c.before.before.before.before.before.before.before.before.before.before.before.before.args.high) (sym c.before.before.before.found.given.1) ∙ count_at_lem _ _ _ _ _ _ c.before.before.before.before.before.before.before.before.before.after-key.ensures _ _ c.before.before.before.before.before.before.before.p.given.1 c.before.before.before.before.before.read_number.ensures
 
-pub read-count-spec : {M : Type 1} → statement M
-read-count-spec =
+pub read_count_spec : {M : Type 1} → statement M
+read_count_spec =
     tie.close
     (tie.spec
     after-key-requires

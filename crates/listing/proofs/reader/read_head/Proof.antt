@@ -1,5 +1,5 @@
-use Rattle.listing.proofs.Steps.{head_first, head-second, head-third, third-wrong, third-is}
-use Rattle.text.proofs.Taking.{took-as, took-none, took-to}
+use Rattle.listing.proofs.Steps.{head_first, head_second, head_third, third_wrong, third_is}
+use Rattle.text.proofs.Taking.{took_as, took_none, took_to}
 use mathlib.Core.Path.{sym, ◌∙◌}
 use borrow.Author.Rules.{rules}
 use Rattle.listing.proofs.reader.read_head.Statement.{statement}
@@ -23,7 +23,7 @@ enum_told c = search rules
 
 -- src/reader.rt:142:9
 returns : tie.Need-returns
-returns c = took-as (head_first _ _ _ _ c.before.before.read_count.ensures c.enum_told.given.1) (took-none _ _ _)
+returns c = took_as (head_first _ _ _ _ c.before.before.read_count.ensures c.enum_told.given.1) (took_none _ _ _)
 
 -- src/reader.rt:144:52
 slice-aggregate-read-count-2 : tie.Need-slice-aggregate-read-count-2
@@ -47,7 +47,7 @@ add-t19 c = search rules
 
 -- src/reader.rt:145:9
 returns-2 : tie.Need-returns-2
-returns-2 c = took-as (head-second _ _ _ _ c.before.before.before.before.before.before.before.read_count.ensures _ _ c.before.before.before.before.before.rules.given.1 _ c.before.before.read-count2.ensures c.enum-told2.given.1) (took-none _ _ _)
+returns-2 c = took_as (head_second _ _ _ _ c.before.before.before.before.before.before.before.read_count.ensures _ _ c.before.before.before.before.before.rules.given.1 _ c.before.before.read-count2.ensures c.enum-told2.given.1) (took_none _ _ _)
 
 -- src/reader.rt:147:32
 read-literals-requires : tie.Need-read-literals-requires
@@ -71,7 +71,7 @@ same_length c = search rules
 
 -- src/reader.rt:148:9
 returns-3 : tie.Need-returns-3
-returns-3 c = took-as (head-third _ _ _ _ c.before.before.before.before.before.before.before.before.before.before.before.before.before.before.read_count.ensures _ _ c.before.before.before.before.before.before.before.before.before.before.before.before.rules.given.1 _ c.before.before.before.before.before.before.before.before.before.read-count2.ensures _ _ c.before.before.before.before.before.before.before.nodes.given.1) (took-to c.before.before.before.before.read-literals.ensures (third-wrong _ _ _ _ (sym c.before.before.before.before.read-literals.ensures.found-is ∙ c.enum-told3.given.1)))
+returns-3 c = took_as (head_third _ _ _ _ c.before.before.before.before.before.before.before.before.before.before.before.before.before.before.read_count.ensures _ _ c.before.before.before.before.before.before.before.before.before.before.before.before.rules.given.1 _ c.before.before.before.before.before.before.before.before.before.read-count2.ensures _ _ c.before.before.before.before.before.before.before.nodes.given.1) (took_to c.before.before.before.before.read-literals.ensures (third_wrong _ _ _ _ (sym c.before.before.before.before.read-literals.ensures.found_is ∙ c.enum-told3.given.1)))
 
 -- src/reader.rt:137:1
 same-length-2 : tie.Need-same-length-2
@@ -79,10 +79,10 @@ same-length-2 c = search rules
 
 -- src/reader.rt:137:1
 returns-4 : tie.Need-returns-4
-returns-4 c = took-as (head-third _ _ _ _ c.before.before.before.before.before.before.before.before.before.before.before.before.before.before.before.read_count.ensures _ _ c.before.before.before.before.before.before.before.before.before.before.before.before.before.rules.given.1 _ c.before.before.before.before.before.before.before.before.before.before.read-count2.ensures _ _ c.before.before.before.before.before.before.before.before.nodes.given.1) (took-to c.before.before.before.before.before.read-literals.ensures (third-is _ _ _ _ _ _ (sym c.before.before.before.before.before.read-literals.ensures.found-is ∙ c.before.bytes.given.1)))
+returns-4 c = took_as (head_third _ _ _ _ c.before.before.before.before.before.before.before.before.before.before.before.before.before.before.before.read_count.ensures _ _ c.before.before.before.before.before.before.before.before.before.before.before.before.before.rules.given.1 _ c.before.before.before.before.before.before.before.before.before.before.read-count2.ensures _ _ c.before.before.before.before.before.before.before.before.nodes.given.1) (took_to c.before.before.before.before.before.read-literals.ensures (third_is _ _ _ _ _ _ (sym c.before.before.before.before.before.read-literals.ensures.found_is ∙ c.before.bytes.given.1)))
 
-pub read-head-spec : {M : Type 1} → statement M
-read-head-spec =
+pub read_head_spec : {M : Type 1} → statement M
+read_head_spec =
     tie.close
     (tie.spec
     slice-aggregate-read-count

@@ -1,6 +1,6 @@
-use Rattle.listing.proofs.Steps.{pairs-wrong, pairs-outside, pairs-inside}
-use Rattle.listing.proofs.Steps.{literals-at-wrong, literals-at}
-use Rattle.text.proofs.Taking.{took-as, took-none}
+use Rattle.listing.proofs.Steps.{pairs_wrong, pairs_outside, pairs_inside}
+use Rattle.listing.proofs.Steps.{literals_at_wrong, literals_at_lem}
+use Rattle.text.proofs.Taking.{took_as, took_none}
 use borrow.Author.Tests.{not-true, not-false}
 use mathlib.Core.Path.{sym, ◌∙◌}
 use borrow.Author.Rules.{rules}
@@ -25,7 +25,7 @@ enum_told c = search rules
 
 -- src/reader.rt:124:9
 returns : tie.Need-returns
-returns c = took-as (literals-at-wrong _ _ _ c.before.before.after-key.ensures c.enum_told.given.1) (took-none _ _ _)
+returns c = took_as (literals_at_wrong _ _ _ c.before.before.after-key.ensures c.enum_told.given.1) (took_none _ _ _)
 
 -- src/reader.rt:126:9
 read-hex-requires : tie.Need-read-hex-requires
@@ -45,7 +45,7 @@ same_length c = search rules
 
 -- src/reader.rt:128:9
 returns-2 : tie.Need-returns-2
-returns-2 c = took-as (literals-at _ _ _ _ c.before.before.before.before.before.before.before.before.before.after-key.ensures c.before.before.before.before.before.before.before.p.given.1) (pairs-wrong 0 4096 c.before.before.before.before.read-hex.ensures c.enum-told2.given.1)
+returns-2 c = took_as (literals_at_lem _ _ _ _ c.before.before.before.before.before.before.before.before.before.after-key.ensures c.before.before.before.before.before.before.before.p.given.1) (pairs_wrong 0 4096 c.before.before.before.before.read-hex.ensures c.enum-told2.given.1)
 
 -- src/reader.rt:130:9
 in-range-requires : tie.Need-in-range-requires
@@ -57,7 +57,7 @@ same-length-2 c = search rules
 
 -- src/reader.rt:131:9
 returns-3 : tie.Need-returns-3
-returns-3 c = took-as (literals-at _ _ _ _ c.before.before.before.before.before.before.before.before.before.before.before.before.after-key.ensures c.before.before.before.before.before.before.before.before.before.before.p.given.1) (pairs-outside 0 4096 c.before.before.before.before.before.before.before.read-hex.ensures _ _ c.before.before.before.found.given.1 (sym c.before.in-range.ensures ∙ not-true c.before.in-range.result c.if1.true))
+returns-3 c = took_as (literals_at_lem _ _ _ _ c.before.before.before.before.before.before.before.before.before.before.before.before.after-key.ensures c.before.before.before.before.before.before.before.before.before.before.p.given.1) (pairs_outside 0 4096 c.before.before.before.before.before.before.before.read-hex.ensures _ _ c.before.before.before.found.given.1 (sym c.before.in-range.ensures ∙ not-true c.before.in-range.result c.if1.true))
 
 -- src/reader.rt:120:1
 same-length-3 : tie.Need-same-length-3
@@ -65,10 +65,10 @@ same-length-3 c = search rules
 
 -- src/reader.rt:120:1
 returns-4 : tie.Need-returns-4
-returns-4 c = took-as (literals-at _ _ _ _ c.before.before.before.before.before.before.before.before.before.before.before.before.after-key.ensures c.before.before.before.before.before.before.before.before.before.before.p.given.1) (pairs-inside 0 4096 c.before.before.before.before.before.before.before.read-hex.ensures _ _ c.before.before.before.found.given.1 (sym c.before.in-range.ensures ∙ not-false c.before.in-range.result c.if1.false))
+returns-4 c = took_as (literals_at_lem _ _ _ _ c.before.before.before.before.before.before.before.before.before.before.before.before.after-key.ensures c.before.before.before.before.before.before.before.before.before.before.p.given.1) (pairs_inside 0 4096 c.before.before.before.before.before.before.before.read-hex.ensures _ _ c.before.before.before.found.given.1 (sym c.before.in-range.ensures ∙ not-false c.before.in-range.result c.if1.false))
 
-pub read-literals-spec : {M : Type 1} → statement M
-read-literals-spec =
+pub read_literals_spec : {M : Type 1} → statement M
+read_literals_spec =
     tie.close
     (tie.spec
     slice-aggregate-after-key

@@ -11,7 +11,7 @@ add-result c = search rules
 
 -- src/reader.rt:32:9
 returns : tie.Need-returns
-returns c = record { next-is = omega arith; stored = sym (set_out _ _ _ c.if1.true) }
+returns c = record { next_is = omega arith; stored = sym (set_out _ _ _ c.if1.true) }
 
 -- src/reader.rt:34:5
 mul_words : tie.Need-overflow-mul-words

@@ -13,5 +13,5 @@ returns-2 : tie.Need-returns-2
 unfolding ending
 returns-2 c = simp (ne_eqb _ _ c.if1.false)
 
-pub ending-of-spec : {M : Type 1} → statement M
-ending-of-spec = tie.close (tie.spec returns returns-2)
+pub ending_of_spec : {M : Type 1} → statement M
+ending_of_spec = tie.close (tie.spec returns returns-2)

@@ -65,8 +65,8 @@ same_length c = search rules
 returns : tie.Need-returns
 returns c = wrote_as (body_is _ _ _) (wrote_then (omega arith) c.before.before.before.before.before.before.before.before.put-records.ensures c.before.before.put-records2.ensures)
 
-pub put-body-spec : {M : Type 1} → statement M
-put-body-spec =
+pub put_body_spec : {M : Type 1} → statement M
+put_body_spec =
     tie.close
     (tie.spec
     mul-start

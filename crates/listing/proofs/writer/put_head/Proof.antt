@@ -1,4 +1,4 @@
-use Rattle.listing.proofs.Lines.{head-is}
+use Rattle.listing.proofs.Lines.{head_is}
 use Rattle.text.proofs.Writing.{wrote_then, wrote_as}
 use native.Mathlib.Omega.{arith}
 use borrow.Author.Rules.{rules}
@@ -55,10 +55,10 @@ same_length c = search rules
 
 -- src/writer.rt:72:1
 returns : tie.Need-returns
-returns c = wrote_as (head-is c.before.before.before.before.before.before.before.before.before.before.before.before.before.before.before.before.before.before.before.args.words.now _ (omega arith)) (wrote_then (omega arith) (wrote_then (omega arith) c.before.before.before.before.before.before.before.before.before.before.before.before.put-line.ensures c.before.before.before.before.before.before.put-line2.ensures) c.before.before.put-literals.ensures)
+returns c = wrote_as (head_is c.before.before.before.before.before.before.before.before.before.before.before.before.before.before.before.before.before.before.before.args.words.now _ (omega arith)) (wrote_then (omega arith) (wrote_then (omega arith) c.before.before.before.before.before.before.before.before.before.before.before.before.put-line.ensures c.before.before.before.before.before.before.put-line2.ensures) c.before.before.put-literals.ensures)
 
-pub put-head-spec : {M : Type 1} → statement M
-put-head-spec =
+pub put_head_spec : {M : Type 1} → statement M
+put_head_spec =
     tie.close
     (tie.spec
     slice-aggregate-put-line

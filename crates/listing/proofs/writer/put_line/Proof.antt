@@ -1,4 +1,4 @@
-use Rattle.listing.proofs.Lines.{line-is}
+use Rattle.listing.proofs.Lines.{line_is}
 use Rattle.text.proofs.Writing.{wrote_then, wrote_as}
 use native.Mathlib.Omega.{arith}
 use borrow.Author.Rules.{rules}
@@ -19,7 +19,7 @@ same_length c = search rules
 
 -- src/writer.rt:34:1
 returns : tie.Need-returns
-returns c = wrote_as (line-is _ _) (wrote_then (omega arith) c.before.before.before.before.before.before.put-bytes.ensures c.before.before.put-numbers.ensures)
+returns c = wrote_as (line_is _ _) (wrote_then (omega arith) c.before.before.before.before.before.before.put-bytes.ensures c.before.before.put-numbers.ensures)
 
-pub put-line-spec : {M : Type 1} → statement M
-put-line-spec = tie.close (tie.spec put-bytes-requires put-numbers-requires same_length returns)
+pub put_line_spec : {M : Type 1} → statement M
+put_line_spec = tie.close (tie.spec put-bytes-requires put-numbers-requires same_length returns)

@@ -1,4 +1,4 @@
-use Rattle.listing.proofs.Lines.{literals-is}
+use Rattle.listing.proofs.Lines.{literals_is}
 use Rattle.text.proofs.Writing.{wrote_then, wrote_as}
 use native.Mathlib.Omega.{arith}
 use borrow.Author.Rules.{rules}
@@ -27,10 +27,10 @@ same_length c = search rules
 
 -- src/writer.rt:64:1
 returns : tie.Need-returns
-returns c = wrote_as (literals-is _) (wrote_then (omega arith) (wrote_then (omega arith) c.before.before.before.before.before.before.before.before.before.before.put-bytes.ensures c.before.before.before.before.before.before.put-hex.ensures) c.before.before.put.ensures)
+returns c = wrote_as (literals_is _) (wrote_then (omega arith) (wrote_then (omega arith) c.before.before.before.before.before.before.before.before.before.before.put-bytes.ensures c.before.before.before.before.before.before.put-hex.ensures) c.before.before.put.ensures)
 
-pub put-literals-spec : {M : Type 1} → statement M
-put-literals-spec =
+pub put_literals_spec : {M : Type 1} → statement M
+put_literals_spec =
     tie.close
     (tie.spec
     slice-aggregate-put-bytes

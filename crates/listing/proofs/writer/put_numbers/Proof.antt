@@ -1,6 +1,6 @@
-use Rattle.listing.proofs.Lines.{numbers-one, numbers-none}
+use Rattle.listing.proofs.Lines.{numbers_one, numbers_none}
 use Rattle.listing.specs.Listing.{numbers}
-use Rattle.text.proofs.Writing.{wrote_then, wrote_as, Left, left-all, left_step, left-done, left-length}
+use Rattle.text.proofs.Writing.{wrote_then, wrote_as, Left, left_all, left_step, left_done, left_length}
 use lib.ListN.{length, drop}
 use borrow.Author.Rules.{rules}
 use native.Mathlib.Omega.{arith}
@@ -18,7 +18,7 @@ decreases-loop text₀ at words next₀ i₀ text next i = length words - i
 
 -- src/writer.rt:26:5
 loop-holds : tie.Need-loop-init invariant-loop decreases-loop
-loop-holds c = (omega arith, left-all _ _ _ (omega arith))
+loop-holds c = (omega arith, left_all _ _ _ (omega arith))
 
 -- src/writer.rt:27:49
 mul-put-decimal : tie.Need-overflow-mul-put-decimal invariant-loop decreases-loop
@@ -58,18 +58,18 @@ loop-less c = omega arith
 
 -- src/writer.rt:26:5
 loop-again : tie.Need-loop-preserved invariant-loop decreases-loop
-loop-again c = (omega arith, left_step (omega arith) c.before.before.before.before.before.before.before.before.before.before.before.loop.invariant.1 (numbers-one _ _ _ c.before.before.before.before.before.before.before.before.before.before.loop-test.true refl) (wrote_then (omega (arith, left-length c.before.before.before.before.before.before.before.before.before.before.before.loop.invariant.1)) c.before.before.before.before.before.before.before.put-decimal.ensures (wrote_as (ap (λ (x : ℕ). x ∷ []) c.before.before.before.Ending-of.ensures) c.before.before.put.ensures)))
+loop-again c = (omega arith, left_step (omega arith) c.before.before.before.before.before.before.before.before.before.before.before.loop.invariant.1 (numbers_one _ _ _ c.before.before.before.before.before.before.before.before.before.before.loop-test.true refl) (wrote_then (omega (arith, left_length c.before.before.before.before.before.before.before.before.before.before.before.loop.invariant.1)) c.before.before.before.before.before.before.before.put-decimal.ensures (wrote_as (ap (λ (x : ℕ). x ∷ []) c.before.before.before.Ending-of.ensures) c.before.before.put.ensures)))
 
 -- src/writer.rt:21:1
 same_length : tie.Need-same-length invariant-loop decreases-loop
-same_length c = left-length c.before.loop.invariant.1
+same_length c = left_length c.before.loop.invariant.1
 
 -- src/writer.rt:21:1
 returns : tie.Need-returns invariant-loop decreases-loop
-returns c = left-done c.before.loop.invariant.1 (numbers-none _ _ c.loop-test.false)
+returns c = left_done c.before.loop.invariant.1 (numbers_none _ _ c.loop-test.false)
 
-pub put-numbers-spec : {M : Type 1} → statement M
-put-numbers-spec =
+pub put_numbers_spec : {M : Type 1} → statement M
+put_numbers_spec =
     tie.close
     (tie.spec
     invariant-loop

@@ -1,4 +1,4 @@
-use Rattle.machine.proofs.Weight.{driven-rest}
+use Rattle.machine.proofs.Weight.{driven_rest}
 use Rattle.machine.specs.Drive.{weight, driven}
 use Rattle.stages.specs.Stages.{with}
 use lib.ListN.{length}
@@ -31,10 +31,10 @@ same_length : tie.Need-same-length invariant-loop decreases-loop
 same_length c = c.before.before.loop.invariant.1
 
 returns : tie.Need-returns invariant-loop decreases-loop
-returns c = sym (driven-rest c.before.before.before.before.before.before.before.args.words.now c.before.before.before.before.before.before.before.args.literals.now c.before.before.before.before.before.before.before.args.message.now c.before.before.before.before.before.before.before.args.budget (with c.before.before.loop.now c.before.before.loop.work) (sym c.before.goes_on.ensures ∙ c.if1.false)) ∙ c.before.before.loop.invariant.0
+returns c = sym (driven_rest c.before.before.before.before.before.before.before.args.words.now c.before.before.before.before.before.before.before.args.literals.now c.before.before.before.before.before.before.before.args.message.now c.before.before.before.before.before.before.before.args.budget (with c.before.before.loop.now c.before.before.loop.work) (sym c.before.goes_on.ensures ∙ c.if1.false)) ∙ c.before.before.loop.invariant.0
 
-pub drive-spec : {M : Type 1} → statement M
-drive-spec =
+pub drive_spec : {M : Type 1} → statement M
+drive_spec =
     tie.close
     (tie.spec
     invariant-loop

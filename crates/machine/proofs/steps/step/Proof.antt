@@ -1,5 +1,5 @@
 use Rattle.machine.proofs.Others.{step_other}
-use Rattle.machine.specs.Step.{stepIn, step_of}
+use Rattle.machine.specs.Step.{step_in, step_of}
 use Rattle.stages.specs.declared.Stage.{Stage}
 use mathlib.Core.Path.{sym, ap, ◌∙◌}
 use borrow.Author.Rules.{rules}
@@ -28,22 +28,22 @@ same_length : tie.Need-same-length
 same_length c = search rules
 
 returns : tie.Need-returns
-unfolding stepIn step_of
-returns c = c.before.before.enter.ensures ∙ ap (λ (t : Stage). stepIn c.before.before.before.before.before.before.before.before.before.before.before.args.words.now c.before.before.before.before.before.before.before.before.before.before.before.args.literals.now c.before.before.before.before.before.before.before.before.before.before.before.args.message.now c.before.before.before.before.before.before.before.before.before.before.before.args.budget t c.before.before.before.before.before.before.before.before.before.before.before.args.run c.before.before.before.before.before.before.before.before.before.before.before.args.work.now) (sym c.before.before.before.before.before.stage.given.1)
+unfolding step_in step_of
+returns c = c.before.before.enter.ensures ∙ ap (λ (t : Stage). step_in c.before.before.before.before.before.before.before.before.before.before.before.args.words.now c.before.before.before.before.before.before.before.before.before.before.before.args.literals.now c.before.before.before.before.before.before.before.before.before.before.before.args.message.now c.before.before.before.before.before.before.before.before.before.before.before.args.budget t c.before.before.before.before.before.before.before.before.before.before.before.args.run c.before.before.before.before.before.before.before.before.before.before.before.args.work.now) (sym c.before.before.before.before.before.stage.given.1)
 
 same-length-2 : tie.Need-same-length-2
 same-length-2 c = search rules
 
 returns-2 : tie.Need-returns-2
-unfolding stepIn step_of
-returns-2 c = c.before.before.back-matched.ensures ∙ ap (λ (t : Stage). stepIn c.before.before.before.before.before.before.before.before.before.before.args.words.now c.before.before.before.before.before.before.before.before.before.before.args.literals.now c.before.before.before.before.before.before.before.before.before.before.args.message.now c.before.before.before.before.before.before.before.before.before.before.args.budget t c.before.before.before.before.before.before.before.before.before.before.args.run c.before.before.before.before.before.before.before.before.before.before.args.work.now) (sym c.before.before.before.before.enum_told.given.1)
+unfolding step_in step_of
+returns-2 c = c.before.before.back-matched.ensures ∙ ap (λ (t : Stage). step_in c.before.before.before.before.before.before.before.before.before.before.args.words.now c.before.before.before.before.before.before.before.before.before.before.args.literals.now c.before.before.before.before.before.before.before.before.before.before.args.message.now c.before.before.before.before.before.before.before.before.before.before.args.budget t c.before.before.before.before.before.before.before.before.before.before.args.run c.before.before.before.before.before.before.before.before.before.before.args.work.now) (sym c.before.before.before.before.enum_told.given.1)
 
 same-length-3 : tie.Need-same-length-3
 same-length-3 c = search rules
 
 returns-3 : tie.Need-returns-3
-unfolding stepIn step_of
-returns-3 c = c.before.before.back-failed.ensures ∙ ap (λ (t : Stage). stepIn c.before.before.before.before.before.before.before.before.before.before.args.words.now c.before.before.before.before.before.before.before.before.before.before.args.literals.now c.before.before.before.before.before.before.before.before.before.before.args.message.now c.before.before.before.before.before.before.before.before.before.before.args.budget t c.before.before.before.before.before.before.before.before.before.before.args.run c.before.before.before.before.before.before.before.before.before.before.args.work.now) (sym c.before.before.before.before.enum-told2.given.1)
+unfolding step_in step_of
+returns-3 c = c.before.before.back-failed.ensures ∙ ap (λ (t : Stage). step_in c.before.before.before.before.before.before.before.before.before.before.args.words.now c.before.before.before.before.before.before.before.before.before.before.args.literals.now c.before.before.before.before.before.before.before.before.before.before.args.message.now c.before.before.before.before.before.before.before.before.before.before.args.budget t c.before.before.before.before.before.before.before.before.before.before.args.run c.before.before.before.before.before.before.before.before.before.before.args.work.now) (sym c.before.before.before.before.enum-told2.given.1)
 
 returns-4 : tie.Need-returns-4
 unfolding step_of

@@ -8,8 +8,8 @@ use mathlib.Core.Path.{◌≡◌, sym, ◌∙◌}
 use mathlib.Core.Logic.{⊎_elim}
 use mathlib.Core.Bool.{cond}
 use native.Mathlib.Omega.{arith}
-use Rattle.visits.proofs.Arms.{stands-small}
-use Rattle.machine.proofs.ThreeSteps.{came-on, came-off, both_read}
+use Rattle.visits.proofs.Arms.{stands_small}
+use Rattle.machine.proofs.ThreeSteps.{came_on, came_off, both_read}
 use borrow.Author.Rules.{rules}
 use Rattle.machine.proofs.strides.both_visits.Statement.{statement}
 use Rattle.machine.proofs.strides.both_visits.Tie as tie
@@ -36,7 +36,7 @@ push-requires : tie.Need-push-requires
 push-requires c κs = search rules
 
 add-after : tie.Need-overflow-add-after
-add-after c = omega (arith, stands-small c.before.before.before.before.before.before.before.before.before.before.before.before.before.before.args.message.now c.before.before.before.before.before.before.before.before.before.before.before.before.before.before.args.run.at c.before.before.before.before.before.before.field-in2.result (sym c.before.before.before.before.before.byte-stands.ensures ∙ c.if1.true))
+add-after c = omega (arith, stands_small c.before.before.before.before.before.before.before.before.before.before.before.before.before.before.args.message.now c.before.before.before.before.before.before.before.before.before.before.before.before.before.before.args.run.at c.before.before.before.before.before.before.field-in2.result (sym c.before.before.before.before.before.byte-stands.ensures ∙ c.if1.true))
 
 second-requires : tie.Need-second-requires
 second-requires c κs = search rules
@@ -54,7 +54,7 @@ same_length : tie.Need-same-length
 same_length c = search rules
 
 returns : tie.Need-returns
-returns c = let a = c.before.before.before.before.before.before.before.before.before.before.before.before.before.before.before.before.before.before.before.before.args in let stands = c.before.before.before.before.before.before.before.before.before.before.before.byte-stands.result in let after : c.before.before.before.before.before.before.if1.after ≡ cond stands (a.run.at + 1) a.run.at = ⊎_elim (λ v. rw v.0.taken v.1) (λ v. rw v.0.left v.1) c.before.before.before.before.before.before.if1.branch in ap (with _) c.before.before.before.second.ensures ∙ (came-on c.field-in3.result a.run c.before.before.before.before.before.before.before.before.before.push.new.0 c.before.before.before.before.before.before.if1.after (eqb c.before.before.before.before.before.before.before.before.before.before.before.before.before.before.before.kind-in.result 3) stands c.before.before.before.before.before.if2.true after ∙ both_read a.words.now a.message.now a.k a.run a.work.now c.before.before.before.before.before.before.before.before.before.before.before.before.before.before.before.before.node-place.ensures c.before.before.before.before.before.before.before.before.before.before.before.before.before.before.before.kind-in.ensures c.before.before.before.before.before.before.before.before.before.before.before.before.before.before.field_in.ensures c.before.before.before.before.before.before.before.before.before.before.before.before.before.node-place2.ensures c.before.before.before.before.before.before.before.before.before.before.before.before.field-in2.ensures c.before.before.before.before.before.before.before.before.before.before.before.byte-stands.ensures c.field-in3.ensures c.before.before.before.before.before.before.before.before.before.push.ensures)
+returns c = let a = c.before.before.before.before.before.before.before.before.before.before.before.before.before.before.before.before.before.before.before.before.args in let stands = c.before.before.before.before.before.before.before.before.before.before.before.byte-stands.result in let after : c.before.before.before.before.before.before.if1.after ≡ cond stands (a.run.at + 1) a.run.at = ⊎_elim (λ v. rw v.0.taken v.1) (λ v. rw v.0.left v.1) c.before.before.before.before.before.before.if1.branch in ap (with _) c.before.before.before.second.ensures ∙ (came_on c.field-in3.result a.run c.before.before.before.before.before.before.before.before.before.push.new.0 c.before.before.before.before.before.before.if1.after (eqb c.before.before.before.before.before.before.before.before.before.before.before.before.before.before.before.kind-in.result 3) stands c.before.before.before.before.before.if2.true after ∙ both_read a.words.now a.message.now a.k a.run a.work.now c.before.before.before.before.before.before.before.before.before.before.before.before.before.before.before.before.node-place.ensures c.before.before.before.before.before.before.before.before.before.before.before.before.before.before.before.kind-in.ensures c.before.before.before.before.before.before.before.before.before.before.before.before.before.before.field_in.ensures c.before.before.before.before.before.before.before.before.before.before.before.before.before.node-place2.ensures c.before.before.before.before.before.before.before.before.before.before.before.before.field-in2.ensures c.before.before.before.before.before.before.before.before.before.before.before.byte-stands.ensures c.field-in3.ensures c.before.before.before.before.before.before.before.before.before.push.ensures)
 
 add-t58 : tie.Need-overflow-add-t58
 add-t58 c = search rules
@@ -63,10 +63,10 @@ same-length-2 : tie.Need-same-length-2
 same-length-2 c = search rules
 
 returns-2 : tie.Need-returns-2
-returns-2 c = let a = c.before.before.before.before.before.before.before.before.before.before.before.before.before.before.before.before.args in let stands = c.before.before.before.before.before.before.before.byte-stands.result in let after : c.before.before.if1.after ≡ cond stands (a.run.at + 1) a.run.at = ⊎_elim (λ v. rw v.0.taken v.1) (λ v. rw v.0.left v.1) c.before.before.if1.branch in let stage : c.if3.t54 ≡ cond stands S.Matched S.Failed = ⊎_elim (λ v. rw v.0.taken v.1) (λ v. rw v.0.left v.1) c.if3.branch in came-off (word a.words.now (c.before.before.before.before.before.before.before.before.before.before.before.before.node-place.result + 2)) a.run c.before.before.before.before.before.push.new.0 c.before.before.if1.after (eqb c.before.before.before.before.before.before.before.before.before.before.before.kind-in.result 3) stands c.if3.t54 c.before.if2.false after stage ∙ both_read a.words.now a.message.now a.k a.run a.work.now c.before.before.before.before.before.before.before.before.before.before.before.before.node-place.ensures c.before.before.before.before.before.before.before.before.before.before.before.kind-in.ensures c.before.before.before.before.before.before.before.before.before.before.field_in.ensures c.before.before.before.before.before.before.before.before.before.node-place2.ensures c.before.before.before.before.before.before.before.before.field-in2.ensures c.before.before.before.before.before.before.before.byte-stands.ensures refl c.before.before.before.before.before.push.ensures
+returns-2 c = let a = c.before.before.before.before.before.before.before.before.before.before.before.before.before.before.before.before.args in let stands = c.before.before.before.before.before.before.before.byte-stands.result in let after : c.before.before.if1.after ≡ cond stands (a.run.at + 1) a.run.at = ⊎_elim (λ v. rw v.0.taken v.1) (λ v. rw v.0.left v.1) c.before.before.if1.branch in let stage : c.if3.t54 ≡ cond stands S.Matched S.Failed = ⊎_elim (λ v. rw v.0.taken v.1) (λ v. rw v.0.left v.1) c.if3.branch in came_off (word a.words.now (c.before.before.before.before.before.before.before.before.before.before.before.before.node-place.result + 2)) a.run c.before.before.before.before.before.push.new.0 c.before.before.if1.after (eqb c.before.before.before.before.before.before.before.before.before.before.before.kind-in.result 3) stands c.if3.t54 c.before.if2.false after stage ∙ both_read a.words.now a.message.now a.k a.run a.work.now c.before.before.before.before.before.before.before.before.before.before.before.before.node-place.ensures c.before.before.before.before.before.before.before.before.before.before.before.kind-in.ensures c.before.before.before.before.before.before.before.before.before.before.field_in.ensures c.before.before.before.before.before.before.before.before.before.node-place2.ensures c.before.before.before.before.before.before.before.before.field-in2.ensures c.before.before.before.before.before.before.before.byte-stands.ensures refl c.before.before.before.before.before.push.ensures
 
-pub both-visits-spec : {M : Type 1} → statement M
-both-visits-spec =
+pub both_visits_spec : {M : Type 1} → statement M
+both_visits_spec =
     tie.close
     (tie.spec
     node-place-requires

@@ -1,5 +1,5 @@
-use Rattle.machine.specs.Drive.{doneAnswer, concludedIn, concluded}
-use Rattle.grammar.specs.Answer.{endingNumber}
+use Rattle.machine.specs.Drive.{done_answer, concluded_in, concluded}
+use Rattle.grammar.specs.Answer.{ending_number}
 use Rattle.calls.specs.declared.Given.{Given}
 use Rattle.stages.specs.declared.Stage.{Stage}
 use mathlib.Core.Path.{sym, ap, ◌∙◌}
@@ -59,35 +59,35 @@ without-values-requires-3 : tie.Need-without-values-requires-3
 without-values-requires-3 c κs = search rules
 
 returns : tie.Need-returns
-unfolding concludedIn concluded
-returns c = c.ended.ensures ∙ ap (λ (t : Stage). concludedIn c.before.before.before.before.before.before.before.before.args.words.now c.before.before.before.before.before.before.before.before.args.literals.now c.before.before.before.before.before.before.before.before.args.message.now t c.before.before.before.before.before.before.before.before.args.run c.before.before.before.before.before.before.before.before.args.work.now) (sym c.before.before.stage.given.1)
+unfolding concluded_in concluded
+returns c = c.ended.ensures ∙ ap (λ (t : Stage). concluded_in c.before.before.before.before.before.before.before.before.args.words.now c.before.before.before.before.before.before.before.before.args.literals.now c.before.before.before.before.before.before.before.before.args.message.now t c.before.before.before.before.before.before.before.before.args.run c.before.before.before.before.before.before.before.before.args.work.now) (sym c.before.before.stage.given.1)
 
 returns-2 : tie.Need-returns-2
-unfolding concludedIn concluded
-returns-2 c = c.done.ensures ∙ (ap (λ (g : Given). doneAnswer g c.before.before.before.before.before.before.before.before.args.run) c.before.returned-by.ensures ∙ ap (λ (t : Stage). concludedIn c.before.before.before.before.before.before.before.before.args.words.now c.before.before.before.before.before.before.before.before.args.literals.now c.before.before.before.before.before.before.before.before.args.message.now t c.before.before.before.before.before.before.before.before.args.run c.before.before.before.before.before.before.before.before.args.work.now) (sym c.before.before.enum_told.given.1))
+unfolding concluded_in concluded
+returns-2 c = c.done.ensures ∙ (ap (λ (g : Given). done_answer g c.before.before.before.before.before.before.before.before.args.run) c.before.returned-by.ensures ∙ ap (λ (t : Stage). concluded_in c.before.before.before.before.before.before.before.before.args.words.now c.before.before.before.before.before.before.before.before.args.literals.now c.before.before.before.before.before.before.before.before.args.message.now t c.before.before.before.before.before.before.before.before.args.run c.before.before.before.before.before.before.before.before.args.work.now) (sym c.before.before.enum_told.given.1))
 
 returns-3 : tie.Need-returns-3
-unfolding concludedIn concluded
-returns-3 c = c.without-values.ensures ∙ ap (λ (t : Stage). concludedIn c.before.before.before.before.before.before.before.args.words.now c.before.before.before.before.before.before.before.args.literals.now c.before.before.before.before.before.before.before.args.message.now t c.before.before.before.before.before.before.before.args.run c.before.before.before.before.before.before.before.args.work.now) (sym c.before.enum-told2.given.1)
+unfolding concluded_in concluded
+returns-3 c = c.without-values.ensures ∙ ap (λ (t : Stage). concluded_in c.before.before.before.before.before.before.before.args.words.now c.before.before.before.before.before.before.before.args.literals.now c.before.before.before.before.before.before.before.args.message.now t c.before.before.before.before.before.before.before.args.run c.before.before.before.before.before.before.before.args.work.now) (sym c.before.enum-told2.given.1)
 
 returns-4 : tie.Need-returns-4
-unfolding concludedIn concluded
-returns-4 c = c.ended2.ensures ∙ ap (λ (t : Stage). concludedIn c.before.before.before.before.before.before.before.before.args.words.now c.before.before.before.before.before.before.before.before.args.literals.now c.before.before.before.before.before.before.before.before.args.message.now t c.before.before.before.before.before.before.before.before.args.run c.before.before.before.before.before.before.before.before.args.work.now) (sym c.before.before.stage2.given.1)
+unfolding concluded_in concluded
+returns-4 c = c.ended2.ensures ∙ ap (λ (t : Stage). concluded_in c.before.before.before.before.before.before.before.before.args.words.now c.before.before.before.before.before.before.before.before.args.literals.now c.before.before.before.before.before.before.before.before.args.message.now t c.before.before.before.before.before.before.before.before.args.run c.before.before.before.before.before.before.before.before.args.work.now) (sym c.before.before.stage2.given.1)
 
 returns-5 : tie.Need-returns-5
-unfolding concludedIn concluded
-returns-5 c = c.ended3.ensures ∙ ap (λ (t : Stage). concludedIn c.before.before.before.before.before.before.before.before.args.words.now c.before.before.before.before.before.before.before.before.args.literals.now c.before.before.before.before.before.before.before.before.args.message.now t c.before.before.before.before.before.before.before.before.args.run c.before.before.before.before.before.before.before.before.args.work.now) (sym c.before.before.stage3.given.1)
+unfolding concluded_in concluded
+returns-5 c = c.ended3.ensures ∙ ap (λ (t : Stage). concluded_in c.before.before.before.before.before.before.before.before.args.words.now c.before.before.before.before.before.before.before.before.args.literals.now c.before.before.before.before.before.before.before.before.args.message.now t c.before.before.before.before.before.before.before.before.args.run c.before.before.before.before.before.before.before.before.args.work.now) (sym c.before.before.stage3.given.1)
 
 returns-6 : tie.Need-returns-6
-unfolding concludedIn concluded endingNumber
-returns-6 c = c.without-values2.ensures ∙ ap (λ (t : Stage). concludedIn c.before.before.before.before.before.before.before.before.args.words.now c.before.before.before.before.before.before.before.before.args.literals.now c.before.before.before.before.before.before.before.before.args.message.now t c.before.before.before.before.before.before.before.before.args.run c.before.before.before.before.before.before.before.before.args.work.now) (sym c.before.before.stage4.given.1)
+unfolding concluded_in concluded ending_number
+returns-6 c = c.without-values2.ensures ∙ ap (λ (t : Stage). concluded_in c.before.before.before.before.before.before.before.before.args.words.now c.before.before.before.before.before.before.before.before.args.literals.now c.before.before.before.before.before.before.before.before.args.message.now t c.before.before.before.before.before.before.before.before.args.run c.before.before.before.before.before.before.before.before.args.work.now) (sym c.before.before.stage4.given.1)
 
 returns-7 : tie.Need-returns-7
-unfolding concludedIn concluded endingNumber
-returns-7 c = c.without-values3.ensures ∙ ap (λ (t : Stage). concludedIn c.before.before.before.before.before.before.before.before.args.words.now c.before.before.before.before.before.before.before.before.args.literals.now c.before.before.before.before.before.before.before.before.args.message.now t c.before.before.before.before.before.before.before.before.args.run c.before.before.before.before.before.before.before.before.args.work.now) (sym c.before.before.stage5.given.1)
+unfolding concluded_in concluded ending_number
+returns-7 c = c.without-values3.ensures ∙ ap (λ (t : Stage). concluded_in c.before.before.before.before.before.before.before.before.args.words.now c.before.before.before.before.before.before.before.before.args.literals.now c.before.before.before.before.before.before.before.before.args.message.now t c.before.before.before.before.before.before.before.before.args.run c.before.before.before.before.before.before.before.before.args.work.now) (sym c.before.before.stage5.given.1)
 
-pub conclude-spec : {M : Type 1} → statement M
-conclude-spec =
+pub conclude_spec : {M : Type 1} → statement M
+conclude_spec =
     tie.close
     (tie.spec
     enum-known-stage

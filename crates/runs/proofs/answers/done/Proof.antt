@@ -1,4 +1,4 @@
-use Rattle.machine.specs.Drive.{doneAnswer}
+use Rattle.machine.specs.Drive.{done_answer}
 use borrow.Author.Rules.{rules}
 use Rattle.runs.proofs.answers.done.Statement.{statement}
 use Rattle.runs.proofs.answers.done.Tie as tie
@@ -16,14 +16,14 @@ ended-requires : tie.Need-ended-requires
 ended-requires c κs = search rules
 
 returns : tie.Need-returns
-unfolding doneAnswer
+unfolding done_answer
 returns c = rw c.before.before.given.given.1
 
 returns-2 : tie.Need-returns-2
-unfolding doneAnswer
+unfolding done_answer
 returns-2 c = rw c.before.before.given2.given.1 c.ended.ensures
 
-pub done-spec : {M : Type 1} → statement M
-done-spec =
+pub done_spec : {M : Type 1} → statement M
+done_spec =
     tie.close
     (tie.spec enum-known-given cast-t11 enum-known-given-2 ended-requires returns returns-2)

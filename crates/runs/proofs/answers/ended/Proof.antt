@@ -11,5 +11,5 @@ without-values-requires c κs = search rules
 returns : tie.Need-returns
 returns c = cc
 
-pub ended-spec : {M : Type 1} → statement M
-ended-spec = tie.close (tie.spec ending-number-requires without-values-requires returns)
+pub ended_spec : {M : Type 1} → statement M
+ended_spec = tie.close (tie.spec ending-number-requires without-values-requires returns)

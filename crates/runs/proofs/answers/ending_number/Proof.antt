@@ -1,4 +1,4 @@
-use Rattle.grammar.specs.Answer.{endingNumber}
+use Rattle.grammar.specs.Answer.{ending_number}
 use borrow.Author.Rules.{rules}
 use Rattle.runs.proofs.answers.ending_number.Statement.{statement}
 use Rattle.runs.proofs.answers.ending_number.Tie as tie
@@ -16,22 +16,22 @@ enum-told-4 : tie.Need-enum-told-4
 enum-told-4 c = search rules
 
 returns : tie.Need-returns
-unfolding endingNumber
+unfolding ending_number
 returns c = rw c.enum_told.given.1
 
 returns-2 : tie.Need-returns-2
-unfolding endingNumber
+unfolding ending_number
 returns-2 c = rw c.enum-told2.given.1
 
 returns-3 : tie.Need-returns-3
-unfolding endingNumber
+unfolding ending_number
 returns-3 c = rw c.enum-told3.given.1
 
 returns-4 : tie.Need-returns-4
-unfolding endingNumber
+unfolding ending_number
 returns-4 c = rw c.enum-told4.given.1
 
-pub ending-number-spec : {M : Type 1} → statement M
-ending-number-spec =
+pub ending_number_spec : {M : Type 1} → statement M
+ending_number_spec =
     tie.close
     (tie.spec enum_told enum-told-2 enum-told-3 enum-told-4 returns returns-2 returns-3 returns-4)

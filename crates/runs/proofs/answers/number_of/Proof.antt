@@ -59,8 +59,8 @@ returns-8 : tie.Need-returns-8
 unfolding number
 returns-8 c = rw c.enum-told8.given.1
 
-pub number-of-spec : {M : Type 1} → statement M
-number-of-spec =
+pub number_of_spec : {M : Type 1} → statement M
+number_of_spec =
     tie.close
     (tie.spec
     enum_told

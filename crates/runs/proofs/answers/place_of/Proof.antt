@@ -38,8 +38,8 @@ returns-3 c = rw c.before.verdict3.given.1
 returns-4 : tie.Need-returns-4
 returns-4 c = sym (place_other _ c.match.keys4)
 
-pub place-of-spec : {M : Type 1} → statement M
-place-of-spec =
+pub place_of_spec : {M : Type 1} → statement M
+place_of_spec =
     tie.close
     (tie.spec
     enum-known-verdict

@@ -16,6 +16,6 @@ returns : tie.Need-returns
 unfolding refusal
 returns c = cc
 
-pub refuse-spec : {M : Type 1} → statement M
-refuse-spec =
+pub refuse_spec : {M : Type 1} → statement M
+refuse_spec =
     tie.close (tie.spec number-of-requires place-of-requires without-values-requires returns)

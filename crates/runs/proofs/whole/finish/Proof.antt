@@ -1,5 +1,5 @@
-use Rattle.runs.proofs.Verdicts.{refused-other}
-use Rattle.runs.specs.Runs.{afterChecks}
+use Rattle.runs.proofs.Verdicts.{refused_other}
+use Rattle.runs.specs.Runs.{after_checks}
 use borrow.Author.Rules.{rules}
 use Rattle.runs.proofs.whole.finish.Statement.{statement}
 use Rattle.runs.proofs.whole.finish.Tie as tie
@@ -17,11 +17,11 @@ same_length : tie.Need-same-length
 same_length c = search rules
 
 returns : tie.Need-returns
-unfolding afterChecks
+unfolding after_checks
 returns c = rw c.before.before.before.before.enum_told.given.1 c.before.before.run-table.ensures
 
 returns-2 : tie.Need-returns-2
-returns-2 c = cc (refused-other c.before.before.before.before.before.before.args.verdict _ c.before.before.before.before.before.before.args.work.now c.before.match.keys2)
+returns-2 c = cc (refused_other c.before.before.before.before.before.before.args.verdict _ c.before.before.before.before.before.before.args.work.now c.before.match.keys2)
 
 pub finish_spec : {M : Type 1} → statement M
 finish_spec =

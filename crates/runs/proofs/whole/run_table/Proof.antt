@@ -24,8 +24,8 @@ same_length c = search rules
 returns : tie.Need-returns
 returns c = assembled c.before.before.before.before.before.before.before.before.before.before.before.before.before.before.before.before.before.before.before.args.words.now c.before.before.before.before.before.before.before.before.before.before.before.before.before.before.before.before.before.before.before.args.literals.now c.before.before.before.before.before.before.before.before.before.before.before.before.before.before.before.before.before.before.before.args.message.now c.before.before.before.before.before.before.before.before.before.before.before.before.before.before.before.before.before.before.before.args.budget c.before.before.before.before.before.before.before.before.before.before.before.before.before.before.before.before.before.before.before.args.work.now _ _ _ _ _ (cc) c.before.before.before.before.before.before.before.before.drive.ensures c.before.before.before.before.conclude.ensures c.before.before.clear-work.ensures
 
-pub run-table-spec : {M : Type 1} → statement M
-run-table-spec =
+pub run_table_spec : {M : Type 1} → statement M
+run_table_spec =
     tie.close
     (tie.spec
     body-requires

@@ -56,8 +56,8 @@ word-at-requires-3 c κs = search rules
 returns-2 : tie.Need-returns-2
 returns-2 c = rw (c.before.before.word_at.ensures, c.before.word-at2.ensures, c.word-at3.ensures)
 
-pub head-from-spec : {M : Type 1} → statement M
-head-from-spec =
+pub head_from_spec : {M : Type 1} → statement M
+head_from_spec =
     tie.close
     (tie.spec
     mul_at

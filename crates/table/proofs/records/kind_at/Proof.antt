@@ -14,6 +14,6 @@ word-at-requires c κs = search rules
 returns : tie.Need-returns
 returns c = cc
 
-pub kind-at-spec : {M : Type 1} → statement M
-kind-at-spec =
+pub kind_at_spec : {M : Type 1} → statement M
+kind_at_spec =
     tie.close (tie.spec rule-count-requires node-start-requires word-at-requires returns)

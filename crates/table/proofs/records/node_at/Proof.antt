@@ -1,4 +1,4 @@
-use Rattle.table.proofs.Decoding.{node_call, node-other}
+use Rattle.table.proofs.Decoding.{node_call, node_other}
 use native.Mathlib.Omega.{arith}
 use borrow.Author.Rules.{rules}
 use Rattle.table.proofs.records.node_at.Statement.{statement}
@@ -26,10 +26,10 @@ expression-node-requires : tie.Need-expression-node-requires
 expression-node-requires c κs = search rules
 
 returns-2 : tie.Need-returns-2
-returns-2 c = cc (node-other c.before.before.before.before.before.before.before.args.words.now c.before.before.before.before.before.before.before.args.k (omega arith))
+returns-2 c = cc (node_other c.before.before.before.before.before.before.before.args.words.now c.before.before.before.before.before.before.before.args.k (omega arith))
 
 returns-3 : tie.Need-returns-3
-returns-3 c = cc (node-other c.before.before.before.before.before.before.before.args.words.now c.before.before.before.before.before.before.before.args.k (omega arith))
+returns-3 c = cc (node_other c.before.before.before.before.before.before.before.args.words.now c.before.before.before.before.before.before.before.args.k (omega arith))
 
 pub node_at_spec : {M : Type 1} → statement M
 node_at_spec =

@@ -17,7 +17,7 @@ word-at-requires c κs = search rules
 returns : tie.Need-returns
 returns c = cc
 
-pub node-word-spec : {M : Type 1} → statement M
-node-word-spec =
+pub node_word_spec : {M : Type 1} → statement M
+node_word_spec =
     tie.close
     (tie.spec rule-count-requires node-start-requires add-word-at word-at-requires returns)

@@ -17,6 +17,6 @@ word-at-requires c κs = search rules
 returns : tie.Need-returns
 returns c = cc
 
-pub returned-node-spec : {M : Type 1} → statement M
-returned-node-spec =
+pub returned_node_spec : {M : Type 1} → statement M
+returned_node_spec =
     tie.close (tie.spec rule-start-requires add-word-at add-word-at-2 word-at-requires returns)

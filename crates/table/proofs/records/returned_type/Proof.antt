@@ -17,6 +17,6 @@ word-at-requires c κs = search rules
 returns : tie.Need-returns
 returns c = cc
 
-pub returned-type-spec : {M : Type 1} → statement M
-returned-type-spec =
+pub returned_type_spec : {M : Type 1} → statement M
+returned_type_spec =
     tie.close (tie.spec rule-start-requires add-word-at add-word-at-2 word-at-requires returns)

@@ -14,5 +14,5 @@ word-at-requires c κs = search rules
 returns : tie.Need-returns
 returns c = cc
 
-pub rule-word-spec : {M : Type 1} → statement M
-rule-word-spec = tie.close (tie.spec rule-start-requires add-word-at word-at-requires returns)
+pub rule_word_spec : {M : Type 1} → statement M
+rule_word_spec = tie.close (tie.spec rule-start-requires add-word-at word-at-requires returns)

@@ -1,4 +1,4 @@
-use Rattle.typing.proofs.Judged.{onTop, leftStep, negationStep, rightStep}
+use Rattle.typing.proofs.Judged.{on_top, left_step, negation_step, right_step}
 use native.Mathlib.Omega.{arith}
 use borrow.Author.Rules.{rules}
 use Rattle.typing.proofs.expressions.apply.Statement.{statement}
@@ -35,7 +35,7 @@ same_length : tie.Need-same-length
 same_length c = search rules
 
 returns : tie.Need-returns
-returns c = let s = c.before.before.before.before.before.before in rw (c.due.ensures, c.before.at-work.ensures) (leftStep s.args.slots s.requires.0 s.requires.1 s.requires.2 (omega (arith, s.ranges)) c.before.before.if1.true)
+returns c = let s = c.before.before.before.before.before.before in rw (c.due.ensures, c.before.at-work.ensures) (left_step s.args.slots s.requires.0 s.requires.1 s.requires.2 (omega (arith, s.ranges)) c.before.before.if1.true)
 
 negation-type-requires : tie.Need-negation-type-requires
 negation-type-requires c κs = search rules
@@ -44,10 +44,10 @@ found-requires : tie.Need-found-requires
 found-requires c κs = search rules
 
 returns-2 : tie.Need-returns-2
-returns-2 c = let s = c.before.before.before.before.before.before.before in rw c.found.ensures (negationStep s.args.slots s.requires.0 s.requires.1 s.requires.2 c.before.before.if2.true c.before.negation-type.ensures)
+returns-2 c = let s = c.before.before.before.before.before.before.before in rw c.found.ensures (negation_step s.args.slots s.requires.0 s.requires.1 s.requires.2 c.before.before.if2.true c.before.negation-type.ensures)
 
 sub-operator-type : tie.Need-overflow-sub-operator-type
-sub-operator-type c = let s = c.before.before.before.before.before in (onTop s.args.slots s.requires.0 s.requires.1 s.requires.2).marked (omega (arith, c.before.if1.false, c.if2.false))
+sub-operator-type c = let s = c.before.before.before.before.before in (on_top s.args.slots s.requires.0 s.requires.1 s.requires.2).marked (omega (arith, c.before.if1.false, c.if2.false))
 
 operator-type-requires : tie.Need-operator-type-requires
 operator-type-requires c κs = search rules
@@ -56,10 +56,10 @@ found-requires-2 : tie.Need-found-requires-2
 found-requires-2 c κs = search rules
 
 returns-3 : tie.Need-returns-3
-returns-3 c = let s = c.before.before.before.before.before.before.before in rw c.found2.ensures (rightStep s.args.slots s.requires.0 s.requires.1 s.requires.2 (omega (arith, c.before.before.before.if1.false, c.before.before.if2.false)) c.before.operator-type.ensures)
+returns-3 c = let s = c.before.before.before.before.before.before.before in rw c.found2.ensures (right_step s.args.slots s.requires.0 s.requires.1 s.requires.2 (omega (arith, c.before.before.before.if1.false, c.before.before.if2.false)) c.before.operator-type.ensures)
 
-pub apply-spec : {M : Type 1} → statement M
-apply-spec =
+pub apply_spec : {M : Type 1} → statement M
+apply_spec =
     tie.close
     (tie.spec
     sub-last

@@ -11,5 +11,5 @@ returns-2 c = let s = c.before.before in rw (eq-eqb s.args.s s.args.wanted c.bef
 returns-3 : tie.Need-returns-3
 returns-3 c = let s = c.before.before in rw (eq-eqb s.args.s s.args.wanted c.before.if1.false, ne_eqb s.args.t s.args.wanted c.if2.false)
 
-pub both-spec : {M : Type 1} → statement M
-both-spec = tie.close (tie.spec returns returns-2 returns-3)
+pub both_spec : {M : Type 1} → statement M
+both_spec = tie.close (tie.spec returns returns-2 returns-3)

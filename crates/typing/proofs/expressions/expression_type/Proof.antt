@@ -1,9 +1,9 @@
 use Rattle.typing.proofs.Judged.{starts, goes, ends}
-use Rattle.typing.specs.Expressions.{applied, operatorWeight, judging, Judges}
+use Rattle.typing.specs.Expressions.{applied, operator_weight, judging, Judges}
 use Rattle.typing.specs.Slots.{types_in}
-use Rattle.grammar.specs.Types.{exprType}
-use Rattle.grammar.specs.Tree.{exprAt}
-use Rattle.laws.specs.Pile.{comesTo, weighs}
+use Rattle.grammar.specs.Types.{expr_type}
+use Rattle.grammar.specs.Tree.{expr_at}
+use Rattle.laws.specs.Pile.{comes_to, weighs}
 use native.Mathlib.Omega.{arith}
 use lib.ListN.{length}
 use mathlib.Core.Path.{◌≡◌, refl, ◌∙◌}
@@ -11,10 +11,10 @@ use Rattle.typing.proofs.expressions.expression_type.Statement.{statement}
 use Rattle.typing.proofs.expressions.expression_type.Tie as tie
 
 abbrev invariant-loop : tie.invariant-loop
-invariant-loop words pile₀ slots k w₀ pile w = (length pile ≡ length pile₀) × Judges words pile w × (comesTo (applied words (types_in slots)) (judging words slots pile w) ≡ exprType (types_in slots) (exprAt words k))
+invariant-loop words pile₀ slots k w₀ pile w = (length pile ≡ length pile₀) × Judges words pile w × (comes_to (applied words (types_in slots)) (judging words slots pile w) ≡ expr_type (types_in slots) (expr_at words k))
 
 abbrev decreases-loop : tie.decreases-loop
-decreases-loop words pile₀ slots k w₀ pile w = weighs operatorWeight (judging words slots pile w)
+decreases-loop words pile₀ slots k w₀ pile w = weighs operator_weight (judging words slots pile w)
 
 due-requires : tie.Need-due-requires invariant-loop decreases-loop
 due-requires c κs = tt
@@ -46,8 +46,8 @@ loop-less-2 c = c.before.before.apply.ensures.onward.less
 loop-again-2 : tie.Need-loop-preserved-2 invariant-loop decreases-loop
 loop-again-2 c = (c.before.before.apply.auto.1.0 ∙ c.before.before.before.before.before.before.before.loop.invariant.0, goes c.before.before.before.before.before.before.before.loop.invariant.1 c.before.before.apply.ensures, c.before.before.apply.ensures.onward.same ∙ c.before.before.before.before.before.before.before.loop.invariant.2)
 
-pub expression-type-spec : {M : Type 1} → statement M
-expression-type-spec =
+pub expression_type_spec : {M : Type 1} → statement M
+expression_type_spec =
     tie.close
     (tie.spec
     invariant-loop

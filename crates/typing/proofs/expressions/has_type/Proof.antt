@@ -19,5 +19,5 @@ returns-2 : tie.Need-returns-2
 unfolding has
 returns-2 c = rw (lt-ltb 0 c.before.before.before.before.before.before.before.args.t (omega (arith, c.before.before.before.before.if1.false)), ← c.before.before.expression-type.ensures)
 
-pub has-type-spec : {M : Type 1} → statement M
-has-type-spec = tie.close (tie.spec returns expression-type-requires same_length returns-2)
+pub has_type_spec : {M : Type 1} → statement M
+has_type_spec = tie.close (tie.spec returns expression-type-requires same_length returns-2)

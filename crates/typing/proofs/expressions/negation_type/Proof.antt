@@ -8,5 +8,5 @@ returns c = rw (eq-eqb c.before.args.t 1 c.if1.true)
 returns-2 : tie.Need-returns-2
 returns-2 c = rw (ne_eqb c.before.args.t 1 c.if1.false)
 
-pub negation-type-spec : {M : Type 1} → statement M
-negation-type-spec = tie.close (tie.spec returns returns-2)
+pub negation_type_spec : {M : Type 1} → statement M
+negation_type_spec = tie.close (tie.spec returns returns-2)

@@ -1,6 +1,6 @@
-use Rattle.typing.specs.Places.{receivedAll}
-use Rattle.typing.proofs.Numbers.{told-some}
-use Rattle.typing.proofs.Fours.{four-received}
+use Rattle.typing.specs.Places.{received_all}
+use Rattle.typing.proofs.Numbers.{told_some}
+use Rattle.typing.proofs.Fours.{four_received}
 use borrow.Author.Rules.{rules}
 use Rattle.typing.proofs.parsing.all_received.Statement.{statement}
 use Rattle.typing.proofs.parsing.all_received.Tie as tie
@@ -18,11 +18,11 @@ received-requires-4 : tie.Need-received-requires-4
 received-requires-4 c κs = search rules
 
 returns : tie.Need-returns
-unfolding receivedAll
-returns c = let s = c.before.before.before.before.before in rw (c.received4.ensures, c.before.received3.ensures, c.before.before.received2.ensures, c.before.before.before.received.ensures, told-some s.args.slots s.requires.1, four-received)
+unfolding received_all
+returns c = let s = c.before.before.before.before.before in rw (c.received4.ensures, c.before.received3.ensures, c.before.before.received2.ensures, c.before.before.before.received.ensures, told_some s.args.slots s.requires.1, four_received)
 
-pub all-received-spec : {M : Type 1} → statement M
-all-received-spec =
+pub all_received_spec : {M : Type 1} → statement M
+all_received_spec =
     tie.close
     (tie.spec
     received-requires

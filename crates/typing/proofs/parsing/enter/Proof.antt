@@ -1,5 +1,5 @@
-use Rattle.typing.proofs.Walked.{leafKind, leafStep, partsStep, waitingSmall}
-use Rattle.typing.proofs.Piles.{part-alike}
+use Rattle.typing.proofs.Walked.{leaf_kind, leaf_step, parts_step, waiting_small}
+use Rattle.typing.proofs.Piles.{part_alike}
 use borrow.Author.Tests.{not-true, not-false}
 use borrow.Rule.Slice.PartMut.{same_len_mid}
 use lib.ListN.{length}
@@ -29,7 +29,7 @@ part-leaf-end : tie.Need-slice-bounds-leaf-end
 part-leaf-end c = search rules
 
 leaf-requires : tie.Need-leaf-requires
-leaf-requires c κs = let s = c.before.before.before.before.before.before in (leafKind s.requires.0 s.requires.1 c.before.before.before.kind_at.ensures, (s.requires.0.due s.requires.1).1, sym c.before.before.has_parts.ensures ∙ not-true c.before.before.has_parts.result c.before.if1.true)
+leaf-requires c κs = let s = c.before.before.before.before.before.before in (leaf_kind s.requires.0 s.requires.1 c.before.before.before.kind_at.ensures, (s.requires.0.due s.requires.1).1, sym c.before.before.has_parts.ensures ∙ not-true c.before.before.has_parts.result c.before.if1.true)
 
 found-requires : tie.Need-found-requires
 found-requires c κs = search rules
@@ -38,7 +38,7 @@ same_length : tie.Need-same-length
 same_length c = search rules
 
 returns : tie.Need-returns
-returns c = let s = c.before.before.before.before.before.before.before.before.before.before in rw c.found.ensures (leafStep s.requires.0 s.requires.1 (same_len_mid s.args.w.top (length s.args.pile.now - s.args.w.top) s.args.pile.now c.before.before.before.leaf.new.1.0 c.before.before.before.leaf.auto.1.0) (part-alike s.args.pile.now c.before.before.before.leaf.new.1.0 s.args.w.top (length s.args.pile.now - s.args.w.top) s.requires.0.piled.room) c.before.before.before.leaf.ensures)
+returns c = let s = c.before.before.before.before.before.before.before.before.before.before in rw c.found.ensures (leaf_step s.requires.0 s.requires.1 (same_len_mid s.args.w.top (length s.args.pile.now - s.args.w.top) s.args.pile.now c.before.before.before.leaf.new.1.0 c.before.before.before.leaf.auto.1.0) (part_alike s.args.pile.now c.before.before.before.leaf.new.1.0 s.args.w.top (length s.args.pile.now - s.args.w.top) s.requires.0.piled.room) c.before.before.before.leaf.ensures)
 
 node-word-requires : tie.Need-node-word-requires
 node-word-requires c κs = search rules
@@ -47,7 +47,7 @@ node-word-requires-2 : tie.Need-node-word-requires-2
 node-word-requires-2 c κs = search rules
 
 work-of-requires : tie.Need-work-of-requires
-work-of-requires c κs = let s = c.before.before.before.before.before.before.before in ((s.requires.0.due s.requires.1).1, rw (c.before.before.before.before.kind_at.ensures, c.node-word2.ensures) (waitingSmall s.requires.0 s.requires.1 (rw c.before.before.before.before.kind_at.ensures at (sym c.before.before.before.has_parts.ensures ∙ not-false c.before.before.before.has_parts.result c.before.before.if1.false))))
+work-of-requires c κs = let s = c.before.before.before.before.before.before.before in ((s.requires.0.due s.requires.1).1, rw (c.before.before.before.before.kind_at.ensures, c.node-word2.ensures) (waiting_small s.requires.0 s.requires.1 (rw c.before.before.before.before.kind_at.ensures at (sym c.before.before.before.has_parts.ensures ∙ not-false c.before.before.before.has_parts.result c.before.before.if1.false))))
 
 mul-pile : tie.Need-overflow-mul-pile
 mul-pile c = search rules
@@ -68,7 +68,7 @@ same-length-2 : tie.Need-same-length-2
 same-length-2 c = search rules
 
 returns-2 : tie.Need-returns-2
-returns-2 c = let s = c.before.before.before.before.before.before.before.before.before.before in rw (c.due.ensures, c.before.first_part.ensures, c.before.before.work-of.ensures, c.before.before.before.before.before.before.before.kind_at.ensures, c.before.before.before.before.node-word.ensures, c.before.before.before.node-word2.ensures) (partsStep s.requires.0 s.requires.1 (rw c.before.before.before.before.before.before.before.kind_at.ensures at (sym c.before.before.before.before.before.before.has_parts.ensures ∙ not-false c.before.before.before.before.before.before.has_parts.result c.before.before.before.before.before.if1.false)) (omega (arith, c.before.before.before.before.node-word.type-inv, c.before.before.before.before.node-word.ensures)))
+returns-2 c = let s = c.before.before.before.before.before.before.before.before.before.before in rw (c.due.ensures, c.before.first_part.ensures, c.before.before.work-of.ensures, c.before.before.before.before.before.before.before.kind_at.ensures, c.before.before.before.before.node_word_lem.ensures, c.before.before.before.node-word2.ensures) (parts_step s.requires.0 s.requires.1 (rw c.before.before.before.before.before.before.before.kind_at.ensures at (sym c.before.before.before.before.before.before.has_parts.ensures ∙ not-false c.before.before.before.before.before.before.has_parts.result c.before.before.before.before.before.if1.false)) (omega (arith, c.before.before.before.before.node_word_lem.type-inv, c.before.before.before.before.node_word_lem.ensures)))
 
 pub enter_spec : {M : Type 1} → statement M
 enter_spec =

@@ -1,5 +1,5 @@
-use Rattle.typing.proofs.Numbers.{told-some}
-use Rattle.typing.proofs.Leaves.{plainLeaves}
+use Rattle.typing.proofs.Numbers.{told_some}
+use Rattle.typing.proofs.Leaves.{plain_leaves}
 use Rattle.typing.specs.Slots.{types_in}
 use mathlib.Core.Path.{◌∙◌}
 use borrow.Author.Rules.{rules}
@@ -34,10 +34,10 @@ returns-3 : tie.Need-returns-3
 returns-3 c = search rules
 
 returns-4 : tie.Need-returns-4
-returns-4 c = let s = c.before.before.before in told-some s.args.slots s.requires.1 ∙ plainLeaves (types_in s.args.slots) s.requires.0 s.requires.2 c.match.rest.0.0.1 c.match.rest.0.1 c.match.rest.1
+returns-4 c = let s = c.before.before.before in told_some s.args.slots s.requires.1 ∙ plain_leaves (types_in s.args.slots) s.requires.0 s.requires.2 c.match.rest.0.0.1 c.match.rest.0.1 c.match.rest.1
 
-pub leaf-spec : {M : Type 1} → statement M
-leaf-spec =
+pub leaf_spec : {M : Type 1} → statement M
+leaf_spec =
     tie.close
     (tie.spec
     called-requires

@@ -1,9 +1,9 @@
 use Rattle.typing.proofs.Walked.{starts, goes, ends, breaks}
-use Rattle.typing.specs.Walk.{resumedAt, workWeight, walking, Walks}
+use Rattle.typing.specs.Walk.{resumed_at, work_weight, walking, Walks}
 use Rattle.typing.specs.Slots.{types_in}
 use Rattle.grammar.specs.Types.{type_of}
-use Rattle.grammar.specs.Tree.{grammarOf, parsingAt}
-use Rattle.laws.specs.Pile.{comesTo, weighs}
+use Rattle.grammar.specs.Tree.{grammar_of, parsing_at}
+use Rattle.laws.specs.Pile.{comes_to, weighs}
 use native.Mathlib.Omega.{arith}
 use lib.ListN.{length}
 use mathlib.Core.Path.{◌≡◌, refl, ◌∙◌}
@@ -11,10 +11,10 @@ use Rattle.typing.proofs.parsing.leaves.Statement.{statement}
 use Rattle.typing.proofs.parsing.leaves.Tie as tie
 
 abbrev invariant-loop : tie.invariant-loop
-invariant-loop words pile₀ slots k w₀ pile w = (length pile ≡ length pile₀) × Walks words pile w × (comesTo (resumedAt words) (walking words pile w) ≡ type_of (grammarOf words) (types_in slots) (parsingAt words k))
+invariant-loop words pile₀ slots k w₀ pile w = (length pile ≡ length pile₀) × Walks words pile w × (comes_to (resumed_at words) (walking words pile w) ≡ type_of (grammar_of words) (types_in slots) (parsing_at words k))
 
 abbrev decreases-loop : tie.decreases-loop
-decreases-loop words pile₀ slots k w₀ pile w = weighs workWeight (walking words pile w)
+decreases-loop words pile₀ slots k w₀ pile w = weighs work_weight (walking words pile w)
 
 due-requires : tie.Need-due-requires invariant-loop decreases-loop
 due-requires c κs = tt
@@ -52,8 +52,8 @@ loop-less-2 c = c.before.before.resume.ensures.onward.less
 loop-again-2 : tie.Need-loop-preserved-2 invariant-loop decreases-loop
 loop-again-2 c = (c.before.before.resume.auto.1.0 ∙ c.before.before.before.before.before.before.before.before.before.loop.invariant.0, goes c.before.before.before.before.before.before.before.before.before.loop.invariant.1 c.before.before.resume.ensures, c.before.before.resume.ensures.onward.same ∙ c.before.before.before.before.before.before.before.before.before.loop.invariant.2)
 
-pub leaves-spec : {M : Type 1} → statement M
-leaves-spec =
+pub leaves_spec : {M : Type 1} → statement M
+leaves_spec =
     tie.close
     (tie.spec
     invariant-loop

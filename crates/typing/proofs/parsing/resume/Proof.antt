@@ -1,4 +1,4 @@
-use Rattle.typing.proofs.Walked.{onTop, secondStep, armStep, doneStep}
+use Rattle.typing.proofs.Walked.{on_top, second_step, arm_step, done_step}
 use Rattle.typing.specs.Walk.{resumed}
 use native.Mathlib.Omega.{arith}
 use borrow.Author.Rules.{rules}
@@ -21,7 +21,7 @@ due-requires : tie.Need-due-requires
 due-requires c κs = search rules
 
 returns : tie.Need-returns
-returns c = let s = c.before.before.before.before.before in rw c.due.ensures (secondStep s.requires.0 s.requires.1 s.requires.2 s.requires.3 c.before.if1.true)
+returns c = let s = c.before.before.before.before.before in rw c.due.ensures (second_step s.requires.0 s.requires.1 s.requires.2 s.requires.3 c.before.if1.true)
 
 at-work-requires : tie.Need-at-work-requires
 at-work-requires c κs = search rules
@@ -39,17 +39,17 @@ same_length : tie.Need-same-length
 same_length c = search rules
 
 returns-2 : tie.Need-returns-2
-returns-2 c = let s = c.before.before.before.before.before.before.before in rw (c.due2.ensures, c.before.at-work.ensures) (armStep s.requires.0 s.requires.1 s.requires.2 s.requires.3 c.before.before.if2.true)
+returns-2 c = let s = c.before.before.before.before.before.before.before in rw (c.due2.ensures, c.before.at-work.ensures) (arm_step s.requires.0 s.requires.1 s.requires.2 s.requires.3 c.before.before.if2.true)
 
 unchanged-requires : tie.Need-unchanged-requires
-unchanged-requires c κs = let s = c.before.before.before.before.before.before in ((onTop s.requires.0 s.requires.1 s.requires.2 s.requires.3).keeps, s.requires.3)
+unchanged-requires c κs = let s = c.before.before.before.before.before.before in ((on_top s.requires.0 s.requires.1 s.requires.2 s.requires.3).keeps, s.requires.3)
 
 found-requires : tie.Need-found-requires
 found-requires c κs = search rules
 
 returns-3 : tie.Need-returns-3
 unfolding resumed
-returns-3 c = let s = c.before.before.before.before.before.before.before.before in rw c.found.ensures (doneStep s.requires.0 s.requires.1 s.requires.2 s.requires.3 {tag = 2} c.before.before.if3.true c.before.unchanged.ensures)
+returns-3 c = let s = c.before.before.before.before.before.before.before.before in rw c.found.ensures (done_step s.requires.0 s.requires.1 s.requires.2 s.requires.3 {tag = 2} c.before.before.if3.true c.before.unchanged.ensures)
 
 cast-assigned : tie.Need-overflow-cast-assigned
 cast-assigned c = search rules
@@ -62,10 +62,10 @@ found-requires-2 c κs = search rules
 
 returns-4 : tie.Need-returns-4
 unfolding resumed
-returns-4 c = let s = c.before.before.before.before.before.before.before.before in rw c.found2.ensures (doneStep s.requires.0 s.requires.1 s.requires.2 s.requires.3 {tag = 3} (omega (arith, (onTop s.requires.0 s.requires.1 s.requires.2 s.requires.3).few, c.before.before.before.before.if1.false, c.before.before.before.if2.false, c.before.before.if3.false)) c.before.assigned.ensures)
+returns-4 c = let s = c.before.before.before.before.before.before.before.before in rw c.found2.ensures (done_step s.requires.0 s.requires.1 s.requires.2 s.requires.3 {tag = 3} (omega (arith, (on_top s.requires.0 s.requires.1 s.requires.2 s.requires.3).few, c.before.before.before.before.if1.false, c.before.before.before.if2.false, c.before.before.if3.false)) c.before.assigned.ensures)
 
-pub resume-spec : {M : Type 1} → statement M
-resume-spec =
+pub resume_spec : {M : Type 1} → statement M
+resume_spec =
     tie.close
     (tie.spec
     sub-last

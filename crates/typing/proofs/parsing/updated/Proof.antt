@@ -15,5 +15,5 @@ assigned-requires c κs = search rules
 returns-2 : tie.Need-returns-2
 returns-2 c = rw (lt-ltb 0 c.before.before.args.t (omega arith)) c.assigned.ensures
 
-pub updated-spec : {M : Type 1} → statement M
-updated-spec = tie.close (tie.spec returns assigned-requires returns-2)
+pub updated_spec : {M : Type 1} → statement M
+updated_spec = tie.close (tie.spec returns assigned-requires returns-2)

@@ -1,4 +1,4 @@
-use Rattle.typing.specs.Walk.{workOf}
+use Rattle.typing.specs.Walk.{work_of}
 use mathlib.Core.Path.{◌∙◌}
 use native.Mathlib.Omega.{arith}
 use borrow.Author.Tests.{ne_eqb}
@@ -19,23 +19,23 @@ at-work-requires-4 : tie.Need-at-work-requires-4
 at-work-requires-4 c κs = search rules
 
 returns : tie.Need-returns
-unfolding workOf
+unfolding work_of
 returns c = c.at-work.ensures ∙ rw c.before.match.keys1
 
 returns-2 : tie.Need-returns-2
-unfolding workOf
+unfolding work_of
 returns-2 c = c.at-work2.ensures ∙ rw c.before.match.keys2
 
 returns-3 : tie.Need-returns-3
-unfolding workOf
+unfolding work_of
 returns-3 c = c.at-work3.ensures ∙ rw c.before.match.keys3
 
 returns-4 : tie.Need-returns-4
-unfolding workOf
+unfolding work_of
 returns-4 c = let s = c.before.before in c.at-work4.ensures ∙ rw (ne_eqb s.args.kind 3 c.before.match.rest.0.0.1, ne_eqb s.args.kind 4 c.before.match.rest.0.1, ne_eqb s.args.kind 8 c.before.match.rest.1)
 
-pub work-of-spec : {M : Type 1} → statement M
-work-of-spec =
+pub work_of_spec : {M : Type 1} → statement M
+work_of_spec =
     tie.close
     (tie.spec
     at-work-requires

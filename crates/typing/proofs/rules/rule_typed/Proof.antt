@@ -1,5 +1,5 @@
 use mathlib.Core.Path.{◌∙◌}
-use Rattle.typing.proofs.Whole.{body-there, rule-broken, rule-kept}
+use Rattle.typing.proofs.Whole.{body_there, rule_broken, rule_kept}
 use borrow.Author.Rules.{rules}
 use Rattle.typing.proofs.rules.rule_typed.Statement.{statement}
 use Rattle.typing.proofs.rules.rule_typed.Tie as tie
@@ -11,13 +11,13 @@ body-requires : tie.Need-body-requires
 body-requires c κs = search rules
 
 leaves-requires : tie.Need-leaves-requires
-leaves-requires c κs = let s = c.before.before.before.before.before in (body-there s.requires.0 s.requires.1 c.before.body.ensures, c.before.before.start-slots.ensures.0)
+leaves-requires c κs = let s = c.before.before.before.before.before in (body_there s.requires.0 s.requires.1 c.before.body.ensures, c.before.before.start-slots.ensures.0)
 
 same_length : tie.Need-same-length
 same_length c = search rules
 
 returns : tie.Need-returns
-returns c = rule-broken c.before.before.before.before.before.before.before.before.before.requires.0 c.before.before.before.before.before.before.start-slots.result c.before.before.before.leaves.result c.before.before.before.before.before.before.start-slots.ensures.1 c.before.before.before.before.before.body.ensures c.before.before.before.leaves.ensures c.if1.true
+returns c = rule_broken c.before.before.before.before.before.before.before.before.before.requires.0 c.before.before.before.before.before.before.start-slots.result c.before.before.before.leaves.result c.before.before.before.before.before.before.start-slots.ensures.1 c.before.before.before.before.before.body.ensures c.before.before.before.leaves.ensures c.if1.true
 
 returned-typed-requires : tie.Need-returned-typed-requires
 returned-typed-requires c κs = search rules
@@ -26,10 +26,10 @@ same-length-2 : tie.Need-same-length-2
 same-length-2 c = search rules
 
 returns-2 : tie.Need-returns-2
-returns-2 c = c.before.before.returned-typed.ensures ∙ rule-kept c.before.before.before.before.before.before.before.before.before.before.before.before.before.requires.0 c.before.before.before.before.before.before.before.before.before.before.start-slots.result c.before.before.before.before.before.before.before.leaves.result c.before.before.before.before.before.before.before.before.before.before.start-slots.ensures.1 c.before.before.before.before.before.before.before.before.before.body.ensures c.before.before.before.before.before.before.before.leaves.ensures c.before.before.before.before.if1.false
+returns-2 c = c.before.before.returned-typed.ensures ∙ rule_kept c.before.before.before.before.before.before.before.before.before.before.before.before.before.requires.0 c.before.before.before.before.before.before.before.before.before.before.start-slots.result c.before.before.before.before.before.before.before.leaves.result c.before.before.before.before.before.before.before.before.before.before.start-slots.ensures.1 c.before.before.before.before.before.before.before.before.before.body.ensures c.before.before.before.before.before.before.before.leaves.ensures c.before.before.before.before.if1.false
 
-pub rule-typed-spec : {M : Type 1} → statement M
-rule-typed-spec =
+pub rule_typed_spec : {M : Type 1} → statement M
+rule_typed_spec =
     tie.close
     (tie.spec
     start-slots-requires

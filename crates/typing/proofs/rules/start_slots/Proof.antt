@@ -1,5 +1,5 @@
 use native.Mathlib.Omega.{arith}
-use Rattle.typing.proofs.Whole.{inherited-all, starts}
+use Rattle.typing.proofs.Whole.{inherited_all, starts}
 use borrow.Author.Rules.{rules}
 use Rattle.typing.proofs.rules.start_slots.Statement.{statement}
 use Rattle.typing.proofs.rules.start_slots.Tie as tie
@@ -47,10 +47,10 @@ add-result-3 : tie.Need-overflow-add-result-3
 add-result-3 c = search rules
 
 returns : tie.Need-returns
-returns c = (let s = inherited-all c.before.before.before.before.before.requires c.before.before.before.inherited-slot.ensures c.before.before.inherited-slot2.ensures c.before.inherited-slot3.ensures c.inherited-slot4.ensures in omega arith, starts c.before.before.before.before.before.requires c.before.before.before.inherited-slot.ensures c.before.before.inherited-slot2.ensures c.before.inherited-slot3.ensures c.inherited-slot4.ensures)
+returns c = (let s = inherited_all c.before.before.before.before.before.requires c.before.before.before.inherited-slot.ensures c.before.before.inherited-slot2.ensures c.before.inherited-slot3.ensures c.inherited-slot4.ensures in omega arith, starts c.before.before.before.before.before.requires c.before.before.before.inherited-slot.ensures c.before.before.inherited-slot2.ensures c.before.inherited-slot3.ensures c.inherited-slot4.ensures)
 
-pub start-slots-spec : {M : Type 1} → statement M
-start-slots-spec =
+pub start_slots_spec : {M : Type 1} → statement M
+start_slots_spec =
     tie.close
     (tie.spec
     inherited-slot-requires

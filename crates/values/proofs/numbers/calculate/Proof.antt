@@ -2,7 +2,7 @@ use mathlib.Core.Path.{refl}
 use mir.Facts.{to_z-of_z, sfits_widen}
 use Rattle.grammar.specs.declared.Arithmetic.TheVariants.{Add, Subtract, Multiply}
 use Rattle.grammar.specs.Values.{calculated}
-use Rattle.values.proofs.Integers.{widened-fits, narrowed}
+use Rattle.values.proofs.Integers.{widened_fits, narrowed}
 use borrow.Author.Rules.{rules}
 use Rattle.values.proofs.numbers.calculate.Statement.{statement}
 use Rattle.values.proofs.numbers.calculate.Tie as tie
@@ -17,7 +17,7 @@ enum_told : tie.Need-enum-told
 enum_told c = search rules
 
 add-narrow : tie.Need-overflow-add-narrow
-add-narrow c = widened-fits Add c.before.before.ranges.a c.before.before.ranges.b
+add-narrow c = widened_fits Add c.before.before.ranges.a c.before.before.ranges.b
 
 narrow-requires : tie.Need-narrow-requires
 narrow-requires c κs = search rules
@@ -26,7 +26,7 @@ enum-told-2 : tie.Need-enum-told-2
 enum-told-2 c = search rules
 
 sub_narrow : tie.Need-overflow-sub-narrow
-sub_narrow c = widened-fits Subtract c.before.before.ranges.a c.before.before.ranges.b
+sub_narrow c = widened_fits Subtract c.before.before.ranges.a c.before.before.ranges.b
 
 narrow-requires-2 : tie.Need-narrow-requires-2
 narrow-requires-2 c κs = search rules
@@ -35,7 +35,7 @@ enum-told-3 : tie.Need-enum-told-3
 enum-told-3 c = search rules
 
 mul-narrow : tie.Need-overflow-mul-narrow
-mul-narrow c = widened-fits Multiply c.before.before.ranges.a c.before.before.ranges.b
+mul-narrow c = widened_fits Multiply c.before.before.ranges.a c.before.before.ranges.b
 
 narrow-requires-3 : tie.Need-narrow-requires-3
 narrow-requires-3 c κs = search rules
@@ -64,8 +64,8 @@ returns-4 c =
     let s = c.before.before.before in
     rw c.before.enum-told4.given.1 (rw (to_z-of_z s.ranges.a, to_z-of_z s.ranges.b) at c.divide.ensures)
 
-pub calculate-spec : {M : Type 1} → statement M
-calculate-spec =
+pub calculate_spec : {M : Type 1} → statement M
+calculate_spec =
     tie.close
     (tie.spec
     cast-x

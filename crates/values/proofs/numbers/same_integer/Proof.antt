@@ -5,5 +5,5 @@ use Rattle.values.proofs.numbers.same_integer.Tie as tie
 returns : tie.Need-returns
 returns c = same_bits c.args.a c.args.b c.ranges.a c.ranges.b
 
-pub same-integer-spec : {M : Type 1} → statement M
-same-integer-spec = tie.close (tie.spec returns)
+pub same_integer_spec : {M : Type 1} → statement M
+same_integer_spec = tie.close (tie.spec returns)

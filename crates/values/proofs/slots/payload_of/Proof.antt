@@ -4,15 +4,15 @@ use mir.Val.{bool_byte}
 use mir.Facts.{to_z-of_z}
 use Rattle.grammar.specs.declared.Value.{Value}
 use Rattle.grammar.specs.declared.Value.TheVariants as Val
-use Rattle.values.specs.Slots.{payloadOf}
+use Rattle.values.specs.Slots.{payload_of}
 use borrow.Author.Rules.{rules}
 use Rattle.values.proofs.slots.payload_of.Statement.{statement}
 use Rattle.values.proofs.slots.payload_of.Tie as tie
 
-payload-bool : (b : Bool) {v : Value} → v ≡ Val.Bool b → bool_byte b ≡ payloadOf v
-unfolding payloadOf
-payload-bool true e = rw e
-payload-bool false e = rw e
+payload_bool : (b : Bool) {v : Value} → v ≡ Val.Bool b → bool_byte b ≡ payload_of v
+unfolding payload_of
+payload_bool true e = rw e
+payload_bool false e = rw e
 
 enum_told : tie.Need-enum-told
 enum_told c = search rules
@@ -45,22 +45,22 @@ add-result : tie.Need-overflow-add-result
 add-result c = search rules
 
 returns : tie.Need-returns
-unfolding payloadOf
+unfolding payload_of
 returns c = rw c.enum_told.given.1
 
 returns-2 : tie.Need-returns-2
-returns-2 c = payload-bool c.before.value.given.0.0 c.before.value.given.1
+returns-2 c = payload_bool c.before.value.given.0.0 c.before.value.given.1
 
 returns-3 : tie.Need-returns-3
-unfolding payloadOf
+unfolding payload_of
 returns-3 c = rw c.before.before.value2.given.1 (rw (to_z-of_z (record { sfits = c.before.known-told2.given.0.1 })) at c.word_of.ensures)
 
 returns-4 : tie.Need-returns-4
-unfolding payloadOf
+unfolding payload_of
 returns-4 c = rw c.before.before.before.value3.given.1
 
-pub payload-of-spec : {M : Type 1} → statement M
-payload-of-spec =
+pub payload_of_spec : {M : Type 1} → statement M
+payload_of_spec =
     tie.close
     (tie.spec
     enum_told

@@ -1,5 +1,5 @@
 use mathlib.Core.Path.{sym, ◌∙◌}
-use Rattle.values.proofs.SlotList.{slot_read, slot-past}
+use Rattle.values.proofs.SlotList.{slot_read, slot_past}
 use borrow.Author.Rules.{rules}
 use Rattle.values.proofs.slots.read_slot.Statement.{statement}
 use Rattle.values.proofs.slots.read_slot.Tie as tie
@@ -34,10 +34,10 @@ returns c =
     c.value_of_lem.ensures ∙ sym (slot_read s.args.slots.now s.args.s c.before.before.before.if1.true)
 
 returns-2 : tie.Need-returns-2
-returns-2 c = sym (slot-past c.before.before.args.slots.now c.before.before.args.s c.if1.false)
+returns-2 c = sym (slot_past c.before.before.args.slots.now c.before.before.args.s c.if1.false)
 
-pub read-slot-spec : {M : Type 1} → statement M
-read-slot-spec =
+pub read_slot_spec : {M : Type 1} → statement M
+read_slot_spec =
     tie.close
     (tie.spec
     mul_at

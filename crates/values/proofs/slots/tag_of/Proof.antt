@@ -35,8 +35,8 @@ returns-5 : tie.Need-returns-5
 unfolding tag_of
 returns-5 c = rw (c.before.before.value.given.1, c.if1.false)
 
-pub tag-of-spec : {M : Type 1} → statement M
-tag-of-spec =
+pub tag_of_spec : {M : Type 1} → statement M
+tag_of_spec =
     tie.close
     (tie.spec
     enum_told

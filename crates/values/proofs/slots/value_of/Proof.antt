@@ -35,8 +35,8 @@ returns-5 c =
     let r = c.match.rest in
     no_line c.before.args.tag c.before.args.payload r.0.0.0.1 r.0.0.1 r.0.1 r.1
 
-pub value-of-spec : {M : Type 1} → statement M
-value-of-spec =
+pub value_of_spec : {M : Type 1} → statement M
+value_of_spec =
     tie.close
     (tie.spec
     integer-of-requires

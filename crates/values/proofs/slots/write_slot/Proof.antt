@@ -26,8 +26,8 @@ same_length c = search rules
 returns : tie.Need-returns
 returns c = rw (c.before.before.write-word2.ensures, c.before.before.before.before.before.before.before.write_word.ensures, c.before.before.before.before.before.before.before.before.tag_of.ensures, c.before.before.before.payload-of.ensures)
 
-pub write-slot-spec : {M : Type 1} → statement M
-write-slot-spec =
+pub write_slot_spec : {M : Type 1} → statement M
+write_slot_spec =
     tie.close
     (tie.spec
     mul_at

@@ -19,5 +19,5 @@ returns c = search rules
 returns-2 : tie.Need-returns-2
 returns-2 c = sym (set_out c.before.args.words.now c.before.args.at c.before.args.word c.if1.false)
 
-pub write-word-spec : {M : Type 1} → statement M
-write-word-spec = tie.close (tie.spec mul_words slice-write-words same_length returns returns-2)
+pub write_word_spec : {M : Type 1} → statement M
+write_word_spec = tie.close (tie.spec mul_words slice-write-words same_length returns returns-2)

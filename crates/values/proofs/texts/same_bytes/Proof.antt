@@ -3,7 +3,7 @@ use mathlib.Core.Path.{◌≡◌, refl, ◌∙◌}
 use Prim.Native.Nat.{◌-◌, ◌≤◌}
 use native.Mathlib.Omega.{arith}
 use lib.ListN.{length, drop}
-use Rattle.laws.specs.Same.{same, same-unlike, same-on, same_not, same_end}
+use Rattle.laws.specs.Same.{same, same_unlike, same_on, same_not, same_end}
 use Rattle.values.proofs.texts.same_bytes.Statement.{statement}
 use Rattle.values.proofs.texts.same_bytes.Tie as tie
 
@@ -14,7 +14,7 @@ abbrev decreases-loop : tie.decreases-loop
 decreases-loop x y i₀ i = length x - i
 
 returns : tie.Need-returns invariant-loop decreases-loop
-returns c = same-unlike c.before.args.x.now c.before.args.y.now c.if1.true
+returns c = same_unlike c.before.args.x.now c.before.args.y.now c.if1.true
 
 loop-holds : tie.Need-loop-init invariant-loop decreases-loop
 loop-holds c = (c.if1.false, omega arith, refl)
@@ -41,7 +41,7 @@ loop-again : tie.Need-loop-preserved invariant-loop decreases-loop
 loop-again c =
     let l = c.before.before.before.before.loop in
     let a = c.before.before.before.before.before.before.args in
-    (l.invariant.0, omega arith, same-on a.x.now a.y.now l.i (omega arith) (omega arith) c.if2.false ∙ l.invariant.2)
+    (l.invariant.0, omega arith, same_on a.x.now a.y.now l.i (omega arith) (omega arith) c.if2.false ∙ l.invariant.2)
 
 returns-3 : tie.Need-returns-3 invariant-loop decreases-loop
 returns-3 c =
@@ -49,8 +49,8 @@ returns-3 c =
     let a = c.before.before.before.args in
     same_end a.x.now a.y.now l.i (omega arith) (omega arith) ∙ l.invariant.2
 
-pub same-bytes-spec : {M : Type 1} → statement M
-same-bytes-spec =
+pub same_bytes_spec : {M : Type 1} → statement M
+same_bytes_spec =
     tie.close
     (tie.spec
     invariant-loop

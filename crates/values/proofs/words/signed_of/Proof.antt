@@ -17,5 +17,5 @@ integer-of-requires c κs = search rules
 returns : tie.Need-returns
 returns c = rw (to_z-of_z (record { sfits = c.integer-of.type-inv })) (c.integer-of.ensures ∙ signed_is c.before.args.high c.before.args.low)
 
-pub signed-of-spec : {M : Type 1} → statement M
-signed-of-spec = tie.close (tie.spec mul-integer-of add-integer-of integer-of-requires returns)
+pub signed_of_spec : {M : Type 1} → statement M
+signed_of_spec = tie.close (tie.spec mul-integer-of add-integer-of integer-of-requires returns)
