@@ -1,4 +1,6 @@
 // Expressions over the slots in use, up to four in a row, and what becomes of their values.
+#![tactic(auto)]
+
 ghost use Rattle.std.specs.Prelude.{◌≡◌};
 ghost use Rattle.calls.specs.Calls.{evaluated, evaluated_four, returned_by, inherited, received_at, received};
 ghost use Rattle.expressions.specs.Meant.{meant};
@@ -9,7 +11,7 @@ use grammar::{Ending, Value};
 use table::records;
 
 // Four values: a call's arguments, or what a rule returns. Past their count they are Absent.
-#[derive(Drop)]
+#[derive(Clone, Copy)]
 pub struct Four {
     pub a: Value,
     pub b: Value,
@@ -18,7 +20,7 @@ pub struct Four {
 }
 
 // What up to four expressions give: their values, or the run ends at once, at a node.
-#[derive(Drop)]
+#[derive(Clone, Copy)]
 pub enum Given {
     Are(Four),
     Ends(Ending, u16),

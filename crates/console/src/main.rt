@@ -1,5 +1,7 @@
 // The console (document 01, "Listing and console"): standard input in, its lines out. What it prints for what it reads is `console_text` of
 // console_text/specs, by the promise of `console_text::respond`; that these bytes are what is read and written, no promise can say.
+#![tactic(auto)]
+
 use console_text::Response;
 use libc::{STDERR_FILENO, STDIN_FILENO, STDOUT_FILENO};
 

@@ -1,4 +1,6 @@
 // The console on slices (document 01, "Listing and console"): its input in, its lines out. The program `console` reads and writes around it.
+#![tactic(auto)]
+
 ghost use Rattle.std.specs.Prelude.{◌≡◌, [], ◌≤◌, length};
 ghost use Rattle.grammar.specs.Answer.{answer, work_after};
 ghost use Rattle.text.specs.Stored.{Wrote};
@@ -14,7 +16,7 @@ use crate::request::Request;
 use grammar::{Answer, Mode, Value};
 
 // How many bytes of the output were written; or a lent slice is too short: for INPUT's one line, or else for what an input can ask.
-#[derive(Drop)]
+#[derive(Clone, Copy)]
 pub enum Response {
     Written(usize),
     Short,

@@ -11,14 +11,14 @@ use listing::Reading;
 use text::{Bytes, Number, Place};
 
 // What the first line says, and the place after it.
-#[derive(Drop)]
+#[derive(Clone, Copy)]
 pub enum ModeLine {
     Is(Mode, usize),
     Wrong,
 }
 
 // A run: its mode and budget, and how many bytes of the message, words and literals were filled. Or the number of the first line that is wrong.
-#[derive(Drop)]
+#[derive(Clone, Copy)]
 pub enum Request {
     Run(Mode, u32, usize, usize, usize),
     Line(u32),

@@ -1,4 +1,6 @@
 // The reader for C and Rust: numbers and slices only; a slice is a pointer and then a length. docs/FIRMWARE.md has a page for firmware engineers.
+#![tactic(auto)]
+
 mod boundary;
 
 ghost use Rattle.std.specs.Prelude.{◌≡◌, length};

@@ -1,4 +1,6 @@
 // Expressions of a table, evaluated from its words.
+#![tactic(auto)]
+
 ghost use Rattle.std.specs.Prelude.{◌≡◌, take, ◌<◌, ◌≤◌};
 ghost use Rattle.grammar.specs.Answer.{setting_of};
 ghost use Rattle.grammar.specs.Run.{eval};
@@ -12,7 +14,7 @@ mod walks;
 use grammar::{Ending, Value};
 
 // What an expression gives: a value; or the run ends at once, at a node.
-#[derive(Drop)]
+#[derive(Clone, Copy)]
 pub enum Evaluated {
     Is(Value),
     Ends(Ending, u16),

@@ -13,7 +13,7 @@ use values::words::{integer_of, word_of};
 
 // A result in two words: a value's tag and payload as in a slot; or, from tag 5 on, why the run ends, and the node. (In 64 bits together the compiler would keep the two in one
 // register, and take them apart at each use: hence the wide tag.)
-#[derive(Drop)]
+#[derive(Clone, Copy)]
 pub struct Given {
     pub tag: u64,
     pub payload: u32,

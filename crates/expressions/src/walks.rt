@@ -11,7 +11,7 @@ use crate::results::{Given, leaf, negate_given, operate_given, stuck};
 use table::records::{Head, head_from, node_place};
 
 // A walk over an expression, on top of so many operators at work: operator j, of node k, begins, and a and b are its operands; or a result was found.
-#[derive(Drop)]
+#[derive(Clone, Copy)]
 pub struct Walk {
     pub begins: bool,
     pub top: usize,
@@ -22,7 +22,7 @@ pub struct Walk {
     pub g: Given,
 }
 
-#[derive(Drop)]
+#[derive(Clone, Copy)]
 pub enum Way {
     Begins,
     Found,
@@ -31,7 +31,7 @@ pub enum Way {
 }
 
 // Halfway through a step: an operator begins; a result was found, v; operator j, of node k, has its left or only value, v; or it has both, v and w.
-#[derive(Drop)]
+#[derive(Clone, Copy)]
 pub struct Halfway {
     pub way: Way,
     pub top: usize,

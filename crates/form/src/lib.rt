@@ -1,4 +1,6 @@
 // The table check: SIZE, FIELD, USE, START (document 01, 'Words of a table' and 'Numbers that come back').
+#![tactic(auto)]
+
 ghost use Rattle.std.specs.Prelude.{◌≡◌};
 ghost use Rattle.grammar.specs.Form.{table_check};
 

@@ -1,5 +1,7 @@
 // The work area: the slots in use, and a frame for each composite node at work (specs/Frames.antt says what stands where). Every function answers
 // every area and every number.
+#![tactic(auto)]
+
 mod words;
 
 ghost use Rattle.std.specs.Prelude.{◌≡◌, ◌+◌, ◌*◌};

@@ -1,7 +1,8 @@
 // The types that code and written meaning (specs/) share. No function stands here.
+#![tactic(auto)]
 
 // Where a Text stands: a part of the literals, or of the message.
-#[derive(Drop)]
+#[derive(Clone, Copy)]
 pub struct Span {
     pub literal: bool,
     pub start: u16,
@@ -9,7 +10,7 @@ pub struct Span {
 }
 
 // A value of a run. An unset slot, and a place of the answer that holds none, is Absent.
-#[derive(Drop)]
+#[derive(Clone, Copy)]
 pub enum Value {
     Absent,
     Bool(bool),
@@ -18,7 +19,7 @@ pub enum Value {
 }
 
 // The operators that take two Integers and give one.
-#[derive(Drop)]
+#[derive(Clone, Copy)]
 pub enum Arithmetic {
     Add,
     Subtract,
@@ -27,7 +28,7 @@ pub enum Arithmetic {
 }
 
 // The operators of two operands.
-#[derive(Drop)]
+#[derive(Clone, Copy)]
 pub enum Operator {
     Calculate(Arithmetic),
     Equal,
@@ -37,21 +38,21 @@ pub enum Operator {
 }
 
 // Why arithmetic gives no number: "32-bit overflow or zero divisor".
-#[derive(Drop)]
+#[derive(Clone, Copy)]
 pub enum Fault {
     Overflow,
     ZeroDivisor,
 }
 
 // What arithmetic gives.
-#[derive(Drop)]
+#[derive(Clone, Copy)]
 pub enum Number {
     Is(i32),
     Not(Fault),
 }
 
 // A node record, as code sees it: parts are node numbers. A kind that document 01 has no row for is Unknown.
-#[derive(Drop)]
+#[derive(Clone, Copy)]
 pub enum Node {
     Unknown,
     Empty,
@@ -73,7 +74,7 @@ pub enum Node {
 }
 
 // What the checks before a run answer: passed, or the refusal and its place.
-#[derive(Drop)]
+#[derive(Clone, Copy)]
 pub enum Verdict {
     Passed,
     Size,
@@ -86,7 +87,7 @@ pub enum Verdict {
 }
 
 // Why a run ends at once.
-#[derive(Drop)]
+#[derive(Clone, Copy)]
 pub enum Ending {
     Budget,
     Deep,
@@ -95,7 +96,7 @@ pub enum Ending {
 }
 
 // "The answer record: number, place, consumed, visits, four values": by value, with enum values.
-#[derive(Drop)]
+#[derive(Clone, Copy)]
 pub struct Answer {
     pub number: u32,
     pub place: u32,
@@ -108,7 +109,7 @@ pub struct Answer {
 }
 
 // A bench run takes any table of sound form; a display run only one that passes the type rules.
-#[derive(Drop)]
+#[derive(Clone, Copy)]
 pub enum Mode {
     Bench,
     Display,

@@ -1,5 +1,7 @@
 // The listing of a table (document 01, "Listing and console"): written into a lent slice, and read off a text.
 // Writer and reader go over their text twice with the same functions: the first time with an empty slice, which measures or judges and stores nothing.
+#![tactic(auto)]
+
 ghost use Rattle.std.specs.Prelude.{◌≡◌};
 ghost use Rattle.listing.specs.Writing.{write, written};
 ghost use Rattle.listing.specs.Reading.{read_from, read, filled};
@@ -10,7 +12,7 @@ mod writer;
 use crate::reader::{Head, Lines};
 
 // What the writer answers: how many bytes it wrote, or the refusal.
-#[derive(Drop)]
+#[derive(Clone, Copy)]
 pub enum Writing {
     Done(usize),
     Size,
@@ -18,7 +20,7 @@ pub enum Writing {
 }
 
 // What the reader answers: how many words and literals it filled, or the refusal; LINE with the line's number.
-#[derive(Drop)]
+#[derive(Clone, Copy)]
 pub enum Reading {
     Done(usize, usize),
     Line(u32),

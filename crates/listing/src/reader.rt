@@ -8,14 +8,14 @@ use table::sizes::in_range;
 use text::{Bytes, Number, Place};
 
 // Where reading lines came to: the place after them, or the number of the first that is wrong.
-#[derive(Drop)]
+#[derive(Clone, Copy)]
 pub enum Lines {
     At(usize),
     Wrong(u32),
 }
 
 // What the first three lines say: R, K, the number of literals, and the place after them; or the number of the first that is wrong.
-#[derive(Drop)]
+#[derive(Clone, Copy)]
 pub enum Head {
     Is(u32, u32, usize, usize),
     Wrong(u32),

@@ -1,4 +1,6 @@
 // A return to the node of the top frame, whose part has matched or failed. Frame d is the top one.
+#![tactic(auto)]
+
 ghost use Rattle.std.specs.Prelude.{◌≡◌};
 ghost use Rattle.grammar.specs.Words.{node_at};
 ghost use Rattle.grammar.specs.Run.{message_part};

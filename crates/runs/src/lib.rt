@@ -1,4 +1,6 @@
 // Bench and display runs: the checks in document 01's order, the run, the answer record, and the work area cleared.
+#![tactic(auto)]
+
 mod answers;
 mod limits;
 mod whole;

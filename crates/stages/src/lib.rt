@@ -1,4 +1,6 @@
 // A run record by value, and the changes of it that visits and returns share.
+#![tactic(auto)]
+
 ghost use Rattle.std.specs.Prelude.{◌≡◌};
 ghost use Rattle.stages.specs.Stages.{moved, staged, ended_at};
 
@@ -6,7 +8,7 @@ use grammar::{Ending, Fault};
 
 // Where a run stands: a visit of a node is due; the node last visited matched, or failed; or the run has ended at a node. A run without budget
 // rests where a visit is due.
-#[derive(Drop)]
+#[derive(Clone, Copy)]
 pub enum Stage {
     Enter(u16),
     Matched,
@@ -18,7 +20,7 @@ pub enum Stage {
 }
 
 // A run: its stage, its position in the message, the frames in use (the depth of the next visit is one more), the visits made.
-#[derive(Drop)]
+#[derive(Clone, Copy)]
 pub struct Run {
     pub stage: Stage,
     pub at: u16,

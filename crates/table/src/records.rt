@@ -90,7 +90,7 @@ pub fn field_in(words: &[u16], place: u32, j: u16) -> u16
 }
 
 // The kind and the fields a and b: all that an expression has.
-#[derive(Drop)]
+#[derive(Clone, Copy)]
 pub struct Head {
     pub kind: u16,
     pub a: u16,

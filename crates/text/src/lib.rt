@@ -1,26 +1,28 @@
 // Decimals, lower-case hex pairs and keys: put into a lent slice, and taken off a text. Every function answers for every place (specs/Stored.antt):
 // storing past the end is no change, and a place stops at the largest number that a place can be.
+#![tactic(auto)]
+
 ghost use Rattle.std.specs.Prelude.{◌≡◌, [], ◌∷◌, ◌<◌, ◌≤◌, ◌^◌, drop, length, nat_abs};
 ghost use Rattle.text.specs.Stored.{Wrote, Took, place_after};
 ghost use Rattle.text.specs.Written.{decimal, signed_decimal, hex_digit, hex};
 ghost use Rattle.text.specs.Found.{after_key, digit, grown, number, hex_value, pair_value, pairs};
 
 // Where reading came to.
-#[derive(Drop)]
+#[derive(Clone, Copy)]
 pub enum Place {
     At(usize),
     Wrong,
 }
 
 // What reading a decimal finds: the number, and the place after the byte that ends it.
-#[derive(Drop)]
+#[derive(Clone, Copy)]
 pub enum Number {
     Is(u32, usize),
     Wrong,
 }
 
 // What reading hex pairs finds: how many bytes they say, and the place after the line.
-#[derive(Drop)]
+#[derive(Clone, Copy)]
 pub enum Bytes {
     Are(usize, usize),
     Wrong,

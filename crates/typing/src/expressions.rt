@@ -76,7 +76,7 @@ fn at_work(code: u64, number: u16) -> u64
 }
 
 // A walk over an expression: whether a node is due, that node or else the type that was found, and how many operators are at work.
-#[derive(Drop)]
+#[derive(Clone, Copy)]
 pub struct Judging {
     pub due: bool,
     pub at: u16,

@@ -1,4 +1,6 @@
 // The type check (document 01, 'Type rules'): answers 1 to 5, or passed. A table that passes never gets STUCK.
+#![tactic(auto)]
+
 mod expressions;
 mod parsing;
 mod rules;

@@ -173,7 +173,7 @@ fn unchanged(kept: u64, slots: u64) -> u64
 }
 
 // A walk over a rule's body: whether a node is due, that node, how many are at work, and the slots' types: those that it starts from, or else those that were found.
-#[derive(Drop)]
+#[derive(Clone, Copy)]
 pub struct Walk {
     pub due: bool,
     pub at: u16,

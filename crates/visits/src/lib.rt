@@ -1,4 +1,6 @@
 // A visit: the budget first, then the depth, and then what the node says.
+#![tactic(auto)]
+
 ghost use Rattle.std.specs.Prelude.{◌≡◌, ◌&&◌, ◌<◌, ◌+◌, ltb};
 ghost use Rattle.grammar.specs.Words.{node_at};
 ghost use Rattle.grammar.specs.Run.{byte_stands, due};
