@@ -14,7 +14,7 @@ abbrev message : Bor (List ℕ)
 message = record { ref_ptr = (3, 40); now = 65 ∷ 66 ∷ 67 ∷ [] }
 
 abbrev literals : Bor (List ℕ)
-literals = record { ref_ptr = (5, 8); ghost_name = 1; now = 97 ∷ 98 ∷ [] }
+literals = record { ref_ptr = (5, 8); now = 97 ∷ 98 ∷ [] }
 
 abbrev text : (literal : Bool) (start length : ℕ) → Value
 text literal start length = Val.Text (record { literal = literal; start = start; length = length })

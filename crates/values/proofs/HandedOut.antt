@@ -6,10 +6,7 @@ use Prim.Native.Nat.{ℕ, ◌+◌, ◌-◌, ◌≤◌, ◌<◌}
 use native.Mathlib.Omega.{arith}
 use borrow.Author.Tests.{le-leb, lt-leb}
 use lib.ListN.{length, take, drop}
-use types.Run.{OneOf, miss}
-use denote.Enum.Declared.{tag_of}
 use denote.Ref.{Bor}
-use Rattle.grammar.specs.contracts.Value.{the_type}
 use Rattle.grammar.specs.declared.Span.{Span}
 use Rattle.grammar.specs.declared.Value.{Value}
 use Rattle.grammar.specs.declared.Value.TheVariants as Val
@@ -48,9 +45,9 @@ module _ (m l : Bor (List ℕ)) {v : Value} (s : Span) (e : v ≡ Val.Text s) wh
   past_message t h = let f = lt-leb (s.start + s.length) (length m.now) h in (rw (e, t, f), rw (e, t, f))
 
 -- an absent or other value
-pub no_text : (m l : Bor (List ℕ)) (v : Value) → OneOf (0 ∷ 1 ∷ 2 ∷ []) (tag_of the_type v) → HandedOut m l v [] m.ref_ptr
+pub no_text : (m l : Bor (List ℕ)) (v : Value) → ((s : Span) → v ≡ Val.Text s → ⊥) → HandedOut m l v [] m.ref_ptr
 unfolding text_bytes text_place
 no_text m l Val.Absent h = (refl, refl)
 no_text m l (Val.Bool b) h = (refl, refl)
 no_text m l (Val.Integer n) h = (refl, refl)
-no_text m l (Val.Text s) h = absurd (miss (0 ∷ 1 ∷ 2 ∷ []) 3 tt h)
+no_text m l (Val.Text s) h = absurd (h s refl)

@@ -144,7 +144,7 @@ abbrev pub widened : ℤ → ℤ
 widened z = to_z w64 (of_z w64 (to_z w32 (of_z w32 z)))
 
 pub widened_is : {z : ℤ} → SFits w32 z → widened z ≡ z
-widened_is {z} f = rw (to_z-of_z f) (to_z-of_z (sfits_widen tt f))
+widened_is {z} f = rw (to_z-of_z f) (to_z-of_z {w = w64} (sfits_widen {w = w32} {w' = w64} tt f))
 
 pub widened_fits : (op : Arithmetic) {a b : ℤ} → SFits w32 a → SFits w32 b → SFits w64 (exact op (widened a) (widened b))
 widened_fits op fa fb = rw (widened_is fa, widened_is fb) (exact_fits op fa fb)
