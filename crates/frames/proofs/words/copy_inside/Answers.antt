@@ -1,0 +1,10 @@
+use Rattle.frames.proofs.Laws.{copied_apart}
+use mathlib.Core.Path.{◌∙◌}
+use native.Mathlib.Omega.{arith}
+use Rattle.frames.proofs.words.copy_inside.Goals as goal
+
+pub returns : goal.returns
+returns c =
+    let a = c.args in
+    let t = c.taken-slots in
+    c.put.ensures ∙ copied_apart a.words.now a.from a.to t.result t.ensures (omega arith) 32 (omega arith)
