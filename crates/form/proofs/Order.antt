@@ -16,9 +16,9 @@ use Rattle.form.specs.Scan.{found, Scanned, Sized}
 use Rattle.table.proofs.Size.{size_facts}
 
 -- what passed SIZE
-pub size_passed : (words : List ℕ) (literal_bytes : ℕ) (b : Bool) → b ≡ size_ok words literal_bytes → not b ≡ false → Sized words
+pub size_passed : (words : List ℕ) (literal_bytes : ℕ) (b : Bool) → b ≡ size_ok words literal_bytes → b ≡ true → Sized words
 size_passed words literal_bytes b told e =
-    let s = size_facts words literal_bytes (sym told ∙ not-false b e) in
+    let s = size_facts words literal_bytes (sym told ∙ e) in
     record { few_rules = s.rules_most; few_nodes = s.nodes_most; long = s.words_are }
 
 module _ (words literals : List ℕ) where

@@ -4,6 +4,7 @@ use mathlib.Core.List.{List, [], ◌∷◌}
 use Prim.Native.Nat.{ℕ}
 use denote.Enum.Declared.{tag_of}
 use types.Run.{OneOf, miss}
+use mathlib.Core.Bool.{Bool}
 use Rattle.grammar.specs.declared.Value.{Value}
 use Rattle.grammar.specs.declared.Value.TheVariants as Val
 use Rattle.grammar.specs.declared.Node.{Node}
@@ -16,10 +17,10 @@ use Rattle.stages.specs.Stages.{with, staged}
 use Rattle.visits.specs.Visits.{judged, begun}
 
 -- all but Bool
-pub judged_other : (v : Value) (k : ℕ) → OneOf (0 ∷ 2 ∷ 3 ∷ []) (tag_of value.the_type v) → judged v k ≡ S.Stuck k
+pub judged_other : (v : Value) (k : ℕ) → ((b : Bool) → v ≡ Val.Bool b → ⊥) → judged v k ≡ S.Stuck k
 unfolding judged
 judged_other Val.Absent k h = refl
-judged_other (Val.Bool b) k h = absurd (miss (0 ∷ 2 ∷ 3 ∷ []) 1 tt h)
+judged_other (Val.Bool b) k h = absurd (h b refl)
 judged_other (Val.Integer z) k h = refl
 judged_other (Val.Text s) k h = refl
 

@@ -1,0 +1,14 @@
+use Rattle.typing.specs.Walk.{resumed_at, work_weight, walking, Walks}
+use Rattle.typing.specs.Slots.{types_in}
+use Rattle.grammar.specs.Types.{type_of}
+use Rattle.grammar.specs.Tree.{grammar_of, parsing_at}
+use Rattle.laws.specs.Pile.{comes_to, weighs}
+use lib.ListN.{length}
+use mathlib.Core.Path.{◌≡◌}
+use Rattle.typing.proofs.parsing.leaves.Given as goal
+
+abbrev pub invariant-loop-w : goal.invariant-loop-w
+invariant-loop-w l = (length l.pile ≡ length l.initial.pile) × Walks l.words l.pile l.w × (comes_to (resumed_at l.words) (walking l.words l.pile l.w) ≡ type_of (grammar_of l.words) (types_in l.slots) (parsing_at l.words l.k))
+
+abbrev pub decreases-loop-w : goal.decreases-loop-w
+decreases-loop-w l = weighs work_weight (walking l.words l.pile l.w)
