@@ -9,12 +9,10 @@ use borrow.Author.Tests.{lt-ltb, ltb-true}
 use lib.Dec.{ltb}
 use lib.ListN.{get_or}
 use lib.Seq.{take-nil}
-use types.Run.{OneOf, miss}
 use denote.Enum.Declared.{tag_of}
 use Rattle.laws.specs.Smallest.{smallest_at, smallest_none}
 use Rattle.grammar.specs.declared.Verdict.{Verdict}
 use Rattle.grammar.specs.declared.Verdict.TheVariants.{Passed, Size, Field, Use, Start, Untyped, Long, Work}
-use Rattle.grammar.specs.contracts.Verdict.{the_type}
 use Rattle.grammar.specs.Words.{node_count, rule_count, inherited_count, returned_count, rule_word}
 use Rattle.grammar.specs.Tree.{four, parsing_at, grammar_of, rule_of, rule_at}
 use Rattle.grammar.specs.Types.{Env, start_env, type_of, typed_after, typed_rule, untyped}
@@ -130,11 +128,8 @@ module _ (words : List ℕ) where
   rules_pass passed = sym (rw (grammar_length words, smallest_none typed 0 (rule_count words) (λ k _ l. passed k (omega arith))))
 
 -- a verdict that is a refusal stands
-abbrev refusals : List ℕ
-refusals = 1 ∷ 2 ∷ 3 ∷ 4 ∷ 5 ∷ 6 ∷ 7 ∷ []
-
-pub refusal_stands : (v later : Verdict) → OneOf refusals (tag_of the_type v) → v ≡ followed_by v later
-refusal_stands Passed later h = absurd (miss refusals 0 tt h)
+pub refusal_stands : (v later : Verdict) → (v ≡ Passed → ⊥) → v ≡ followed_by v later
+refusal_stands Passed later h = absurd (h refl)
 refusal_stands Size later h = refl
 refusal_stands (Field i) later h = refl
 refusal_stands (Use k) later h = refl

@@ -13,4 +13,4 @@ returns-in-Passed c = rw (← c.check-verdict.ensures, c.in-Passed.is) c.typed_r
 
 pub returns-in_default : goal.returns-in_default
 unfolding type_check
-returns-in_default c = rw (← c.check-verdict.ensures) (refusal_stands c.check-verdict.result (type_rules c.args.words.now) c.in_default.is)
+returns-in_default c = rw (← c.check-verdict.ensures) (refusal_stands c.check-verdict.result (type_rules c.args.words.now) c.in_default.not-Passed)
