@@ -9,4 +9,4 @@ use Rattle.runs.proofs.bench.Goals as goal
 
 pub returns : goal.returns
 unfolding check
-returns c = let short : Short c.args.words.now = λ i. omega (arith, c.shared_slice_known-1.given i) in let e = answers c.args.words.now c.args.literals.now c.args.message.now short Bench c.args.budget c.args.work.now _ _ _ (cc) c.finish.ensures in (ap (λ (x : Ran). x.answer) e, ap (λ (x : Ran). x.work) e)
+returns c = let short : Short c.args.words.now = λ i. omega (arith, c.type_inv.words i) in let e = answers c.args.words.now c.args.literals.now c.args.message.now short Bench c.args.budget c.args.work.now _ _ _ (cc) c.finish.ensures in record { gives = ap (λ (x : Ran). x.answer) e; leaves = ap (λ (x : Ran). x.work) e }

@@ -16,4 +16,4 @@ unfolding place
 returns-in-Untyped c = rw c.in-Untyped.is
 
 pub returns-in_default : goal.returns-in_default
-returns-in_default c = sym (place_other _ c.in_default.is)
+returns-in_default c = sym (place_other _ c.in_default.not-Field c.in_default.not-Use c.in_default.not-Untyped)

@@ -7,4 +7,4 @@ unfolding after_checks
 returns-in-Passed c = rw c.in-Passed.is c.run_table.ensures
 
 pub returns-in_default : goal.returns-in_default
-returns-in_default c = cc (refused_other c.args.verdict _ c.args.work.now c.in_default.is)
+returns-in_default c = cc (refused_other c.args.verdict _ c.args.work.now c.in_default.not-Passed)

@@ -1,0 +1,6 @@
+use Rattle.exports.specs.Boundary.{verdict_word}
+use mathlib.Core.Path.{ap, ◌∙◌}
+use Rattle.exports.proofs.styrmflo_check.Goals as goal
+
+pub returns : goal.returns
+returns c = c.verdict_word.ensures ∙ ap verdict_word c.check.ensures
