@@ -1,26 +1,19 @@
 -- Where a value's bytes stand, a case each. Assumes nothing.
 use mathlib.Core.Path.{◌≡◌, refl}
 use mathlib.Core.Bool.{true, false, cond}
-use mathlib.Core.List.{List, [], ◌∷◌}
 use Prim.Native.Nat.{ℕ, ◌+◌, ◌*◌}
 use lib.Dec.{leb}
-use types.Run.{OneOf, miss}
-use denote.Enum.Declared.{tag_of}
-use Rattle.grammar.specs.contracts.Value.{the_type}
 use Rattle.grammar.specs.declared.Span.{Span}
 use Rattle.grammar.specs.declared.Value.{Value}
 use Rattle.grammar.specs.declared.Value.TheVariants as Val
 use Rattle.exports.specs.Boundary.{part_word}
 
-abbrev others : List ℕ
-others = 0 ∷ 1 ∷ 2 ∷ []
-
-pub no_part : (message literals : ℕ) (v : Value) → OneOf others (tag_of the_type v) → 0 ≡ part_word message literals v
+pub no_part : (message literals : ℕ) (v : Value) → ((s : Span) → v ≡ Val.Text s → ⊥) → 0 ≡ part_word message literals v
 unfolding part_word
 no_part message literals Val.Absent h = refl
 no_part message literals (Val.Bool b) h = refl
 no_part message literals (Val.Integer z) h = refl
-no_part message literals (Val.Text s) h = absurd (miss others 3 tt h)
+no_part message literals (Val.Text s) h = absurd (h s refl)
 
 module _ (message literals : ℕ) (s : Span) where
   abbrev within : ℕ → ℕ

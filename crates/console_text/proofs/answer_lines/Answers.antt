@@ -20,7 +20,7 @@ pub slice_bounds-print_run-end-in-Run-5 : goal.slice_bounds-print_run-end-in-Run
 slice_bounds-print_run-end-in-Run-5 c = take_length _ _ (counted _ _ _ _ c.read_request.ensures _ _ _ _ _ c.in-Run.is).in_message
 
 pub returns-in-Line : goal.returns-in-Line
-returns-in-Line c = respond_line _ _ _ _ _ _ c.requires.1 c.requires.0 c.read_request.ensures _ c.in-Line.is c.print_line.ensures
+returns-in-Line c = respond_line _ _ _ _ _ _ c.requires.roomy c.requires.input_len_bound c.read_request.ensures _ c.in-Line.is c.print_line.ensures
 
 pub returns-in-Run : goal.returns-in-Run
-returns-in-Run c = respond_run _ _ _ _ _ _ c.requires.1 c.requires.0 c.read_request.ensures _ _ _ _ _ c.in-Run.is c.print_run.ensures.0 c.print_run.ensures.1
+returns-in-Run c = respond_run _ _ _ _ _ _ c.requires.roomy c.requires.input_len_bound c.read_request.ensures _ _ _ _ _ c.in-Run.is c.print_run.ensures.prints c.print_run.ensures.leaves

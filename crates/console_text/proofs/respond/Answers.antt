@@ -14,4 +14,4 @@ pub returns-then-not-lent_enough : goal.returns-then-not-lent_enough
 returns-then-not-lent_enough c = respond_short _ _ _ _ _ _ c.if-input-gt65536.false (sym c.lent_enough.ensures ∙ c.if-not-lent_enough.true)
 
 pub answer_lines-requires : goal.answer_lines-requires
-answer_lines-requires c = (c.if-input-gt65536.false, enough_facts _ _ _ _ _ (sym c.lent_enough.ensures ∙ c.if-not-lent_enough.false))
+answer_lines-requires c = record { input_len_bound = c.if-input-gt65536.false; roomy = enough_facts _ _ _ _ _ (sym c.lent_enough.ensures ∙ c.if-not-lent_enough.false) }

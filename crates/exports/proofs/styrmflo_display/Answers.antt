@@ -3,4 +3,4 @@ use mathlib.Core.Path.{ap, ◌∙◌}
 use Rattle.exports.proofs.styrmflo_display.Goals as goal
 
 pub returns : goal.returns
-returns c = (c.display-answer.ensures.1, c.put_record.ensures ∙ ap (with_record c.args.twelve.now) c.display-answer.ensures.0)
+returns c = record { leaves = c.display-answer.ensures.leaves; gives = c.put_record.ensures ∙ ap (with_record c.args.twelve.now) c.display-answer.ensures.gives }

@@ -4,4 +4,4 @@ use mathlib.Core.Path.{ap, ◌∙◌}
 use Rattle.exports.proofs.styrmflo_write.Goals as goal
 
 pub returns : goal.returns
-returns c = (ap (λ (x : Written). x.text) c.write-writing.ensures, c.put_writing.ensures ∙ ap (λ (x : Written). with_writing c.args.answer.now x.answer) c.write-writing.ensures)
+returns c = record { text = ap (λ (x : Written). x.text) c.write-writing.ensures; tells = c.put_writing.ensures ∙ ap (λ (x : Written). with_writing c.args.answer.now x.answer) c.write-writing.ensures }

@@ -15,7 +15,7 @@ pub bounds-bytes-i : goal.bounds-bytes-i
 bounds-bytes-i c = omega arith
 
 pub hex_digit-requires : goal.hex_digit-requires
-hex_digit-requires c = omega (arith, c.shared_slice_known-in-loop-i-1.given c.loop-i.i)
+hex_digit-requires c = omega (arith, c.type_inv.bytes c.loop-i.i)
 
 pub hex_digit-requires-in-loop-i : goal.hex_digit-requires-in-loop-i
 hex_digit-requires-in-loop-i c = omega arith

@@ -10,7 +10,7 @@ pub returns-then-at-ge65535 : goal.returns-then-at-ge65535
 returns-then-at-ge65535 c = let a = c.args in sym (stands_last a.message.now a.at a.byte (omega arith))
 
 pub overflow_cast-result : goal.overflow_cast-result
-overflow_cast-result c = omega (arith, c.shared_slice_known-1.given c.args.at)
+overflow_cast-result c = omega (arith, c.type_inv.message c.args.at)
 
 pub returns : goal.returns
 returns c = let a = c.args in sym (stands_here a.message.now a.at a.byte (omega arith) (omega arith))

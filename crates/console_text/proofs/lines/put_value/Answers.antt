@@ -1,4 +1,5 @@
 use Rattle.console_text.specs.Printed.{integer_text}
+use mir.Syntax.{w32}
 use mir.Facts.{to_z-of_z}
 use mathlib.Core.Path.{ap, ◌∙◌}
 use Rattle.text.proofs.Writing.{wrote_as}
@@ -12,7 +13,7 @@ pub returns-in-Bool : goal.returns-in-Bool
 returns-in-Bool c = wrote_as (value_bool _ _ _ _ c.in-Bool.is) c.put_bool.ensures
 
 pub returns-in-Integer : goal.returns-in-Integer
-returns-in-Integer c = wrote_as (ap integer_text (to_z-of_z (record { sfits = c.in-Integer.known_told-in-Integer-1-own.given.0.1 })) ∙ value_integer _ _ _ _ c.in-Integer.is) c.put_integer.ensures
+returns-in-Integer c = wrote_as (ap integer_text (to_z-of_z {w = w32} (record { sfits = c.in-Integer.known_told-in-Integer-1-own.given.0.1 })) ∙ value_integer _ _ _ _ c.in-Integer.is) c.put_integer.ensures
 
 pub returns-in-Text : goal.returns-in-Text
-returns-in-Text c = wrote_as (value_text_lem _ _ _ _ _ c.in-Text.is c.text_bytes.ensures.0) c.put_text.ensures
+returns-in-Text c = wrote_as (value_text_lem _ _ _ _ _ c.in-Text.is c.text_bytes.ensures.bytes) c.put_text.ensures

@@ -15,7 +15,7 @@ pub returns-in_default-read_message : goal.returns-in_default-read_message
 returns-in_default-read_message c = third_wrong _ _ _ _ c.read_mode.ensures _ _ c.in-Is.is c.read_budget.ensures _ _ c.in-Is-read_budget.is c.read_message.ensures c.in_default-read_message.is
 
 pub read_listing-requires : goal.read_listing-requires
-read_listing-requires c = ((c.requires.0, (omega (arith, ap length (nothing_taken c.read_message.ensures c.args.message.now)), (c.requires.1.1.0, c.requires.1.1.1))), sym c.read_message.ensures.found_is ∙ c.in-Are.is)
+read_listing-requires c = record { input_len_bound = (c.requires.0, (omega (arith, ap length (nothing_taken c.read_message.ensures c.args.message.now)), (c.requires.1.1.0, c.requires.1.1.1))); from_value = sym c.read_message.ensures.found_is ∙ c.in-Are.is }
 
 pub returns : goal.returns
 returns c = c.read_listing.ensures ∙ from_fourth_lem _ _ _ _ c.read_mode.ensures _ _ c.in-Is.is c.read_budget.ensures _ _ c.in-Is-read_budget.is c.read_message.ensures c.in-Are.is

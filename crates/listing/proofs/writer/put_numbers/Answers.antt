@@ -18,7 +18,7 @@ pub bounds-words-i : goal.bounds-words-i
 bounds-words-i c = omega arith
 
 pub overflow_cast-words : goal.overflow_cast-words
-overflow_cast-words c = omega (arith, c.shared_slice_known-in-loop-i-1.given c.loop-i.i)
+overflow_cast-words c = omega (arith, c.type_inv.words c.loop-i.i)
 
 pub overflow_add-i : goal.overflow_add-i
 overflow_add-i c = omega arith

@@ -19,16 +19,16 @@ pub returns-then-not-in_range-3 : goal.returns-then-not-in_range-3
 returns-then-not-in_range-3 c = size_wrong _ _ (λ (s : Sized c.args.words.now c.args.literal_bytes). outside 0 4096 _ _ _ c.in_range-3.ensures c.wide-literals.ensures (c.if-not-in_range-3.true) (omega arith) s.literals_most)
 
 pub overflow_mul-rules : goal.overflow_mul-rules
-overflow_mul-rules c = omega (arith, c.wide-rules.ensures, c.shared_slice_known-2-1.given 0)
+overflow_mul-rules c = omega (arith, c.wide-rules.ensures, c.type_inv.words 0)
 
 pub overflow_add-rules : goal.overflow_add-rules
-overflow_add-rules c = omega (arith, c.wide-rules.ensures, c.shared_slice_known-2-1.given 0)
+overflow_add-rules c = omega (arith, c.wide-rules.ensures, c.type_inv.words 0)
 
 pub overflow_mul-nodes : goal.overflow_mul-nodes
-overflow_mul-nodes c = omega (arith, c.wide-nodes.ensures, c.shared_slice_known-2-1.given 1)
+overflow_mul-nodes c = omega (arith, c.wide-nodes.ensures, c.type_inv.words 1)
 
 pub overflow_add-rules-2 : goal.overflow_add-rules-2
-overflow_add-rules-2 c = omega (arith, c.wide-rules.ensures, c.wide-nodes.ensures, c.shared_slice_known-2-1.given 0, c.shared_slice_known-2-1.given 1)
+overflow_add-rules-2 c = omega (arith, c.wide-rules.ensures, c.wide-nodes.ensures, c.type_inv.words 0, c.shared_slice_known-2-1.given 1)
 
 pub returns-then-words-rules : goal.returns-then-words-rules
 returns-then-words-rules c = size_wrong _ _ (λ (s : Sized c.args.words.now c.args.literal_bytes). c.if-words-rules.true (omega (arith, s.words_are, c.wide-rules.ensures, c.wide-nodes.ensures)))
