@@ -2,23 +2,45 @@
 // console_text/specs, by the promise of `console_text::respond`; that these bytes are what is read and written, no promise can say.
 #![tactic(auto)]
 
-use console_text::Response;
-use libc::{STDERR_FILENO, STDIN_FILENO, STDOUT_FILENO};
+ghost use Rattle.std.specs.Prelude.{◌≤◌, length, IfOk};
 
-// Failing to write is no success. A program of this language has no exit status, so it is said on standard error; `./run` ends with 2 where something stands there.
-fn complain() {
-    io::write_all(STDERR_FILENO, b"console: the answer could not be written\n");
+use console_text::Response;
+use std::io::{self, Read, Write};
+
+// Failing to write is no success: it is said on standard error, and the program's end tells it too; `./run` ends with 2 where either is so.
+fn complain(rt: &HostRuntime) -> io::Result<()> {
+    rt.stderr()
+        .write_all(b"console: the answer could not be written\n")
 }
 
 // Writes the first bytes of the output; their count is never more than there are.
-fn send(output: &[u8], count: usize) {
-    if count <= output.len() && io::write_all(STDOUT_FILENO, &output[..count]) {
-        return;
+fn send(rt: &HostRuntime, output: &[u8], count: usize) -> io::Result<()> {
+    if count <= output.len() {
+        if let Err(e) = rt.stdout().write_all(&output[..count]) {
+            complain(rt)?;
+            return Err(e);
+        }
+        return Ok(());
     }
-    complain();
+    complain(rt)
 }
 
-fn main() {
+// Fills the slice from its start, as far as the reader goes: how many bytes came.
+fn read_full<R: Read>(reader: &mut R, bytes: &mut [u8]) -> io::Result<usize>
+    ensures { IfOk result (λ n. n ≤ length bytes.new) }
+{
+    let mut n = 0;
+    while n < bytes.len() {
+        let more = reader.read(&mut bytes[n..])?;
+        if more == 0 {
+            return Ok(n);
+        }
+        n += more;
+    }
+    Ok(n)
+}
+
+fn main(rt: HostRuntime) -> io::Result<()> {
     // one byte more than an input may have
     let mut input = [0u8; 65537];
     let mut message = [0u8; 32768];
@@ -26,7 +48,7 @@ fn main() {
     let mut literals = [0u8; 4096];
     let mut work = [0u32; 9760];
     let mut output = [0u8; 262253];
-    let n = io::read_full(STDIN_FILENO, &mut input);
+    let n = read_full(&mut rt.stdin(), &mut input)?;
     match console_text::respond(
         &input[..n],
         &mut message,
@@ -35,8 +57,8 @@ fn main() {
         &mut work,
         &mut output,
     ) {
-        Response::Written(count) => send(&output, count),
+        Response::Written(count) => send(&rt, &output, count),
         // never, since the slices are as long as they have to be
-        Response::Short => complain(),
+        Response::Short => complain(&rt),
     }
 }
