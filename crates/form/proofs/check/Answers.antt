@@ -37,8 +37,8 @@ returns-then-node-nodes c =
     let a = c.args in
     let few = size_passed _ _ _ c.size_ok.ensures c.if-not-size_ok.false in
     let later =
-        after_scan a.words.now a.literals.now (sym c.size_ok.ensures ∙ c.if-not-size_ok.false) c.first_bad-bad.new.counts c.first_bad-bad.result c.first_bad-bad.ensures c.if-bad-words.false
-        n.result c.first_other-node.result n.ensures (omega arith) c.first_other-node.ensures in
+    after_scan a.words.now a.literals.now (sym c.size_ok.ensures ∙ c.if-not-size_ok.false) c.first_bad-bad.new.counts c.first_bad-bad.result c.first_bad-bad.ensures c.if-bad-words.false
+    n.result c.first_other-node.result n.ensures (omega arith) c.first_other-node.ensures in
     later.0 c.if-node-nodes.true
 
 pub returns-then-inherited_count-gt0 : goal.returns-then-inherited_count-gt0
@@ -47,8 +47,8 @@ returns-then-inherited_count-gt0 c =
     let a = c.args in
     let few = size_passed _ _ _ c.size_ok.ensures c.if-not-size_ok.false in
     let later =
-        after_scan a.words.now a.literals.now (sym c.size_ok.ensures ∙ c.if-not-size_ok.false) c.first_bad-bad.new.counts c.first_bad-bad.result c.first_bad-bad.ensures c.if-bad-words.false
-        n.result c.first_other-node.result n.ensures (omega arith) c.first_other-node.ensures in
+    after_scan a.words.now a.literals.now (sym c.size_ok.ensures ∙ c.if-not-size_ok.false) c.first_bad-bad.new.counts c.first_bad-bad.result c.first_bad-bad.ensures c.if-bad-words.false
+    n.result c.first_other-node.result n.ensures (omega arith) c.first_other-node.ensures in
     later.1 c.if-node-nodes.false (omega (arith, c.inherited_count.ensures))
 
 pub returns : goal.returns
@@ -57,6 +57,6 @@ returns c =
     let a = c.args in
     let few = size_passed _ _ _ c.size_ok.ensures c.if-not-size_ok.false in
     let later =
-        after_scan a.words.now a.literals.now (sym c.size_ok.ensures ∙ c.if-not-size_ok.false) c.first_bad-bad.new.counts c.first_bad-bad.result c.first_bad-bad.ensures c.if-bad-words.false
-        n.result c.first_other-node.result n.ensures (omega arith) c.first_other-node.ensures in
+    after_scan a.words.now a.literals.now (sym c.size_ok.ensures ∙ c.if-not-size_ok.false) c.first_bad-bad.new.counts c.first_bad-bad.result c.first_bad-bad.ensures c.if-bad-words.false
+    n.result c.first_other-node.result n.ensures (omega arith) c.first_other-node.ensures in
     later.2 c.if-node-nodes.false (omega (arith, c.inherited_count.ensures))

@@ -59,9 +59,9 @@ loop-j-preserved c =
     let its_own = own.ensures ∙ ap (λ (rows : List (List ℕ)). record_sort rows rules.result c.records.q row.result c.loop-j.j) c.records.invariant.3 in
     let fit = record_in c.rule_count-rules.result c.records.q c.node_count-nodes.result (omega arith) in
     let after =
-        judged c.args.words.now rules.result c.records.q c.loop-j.j c.records.start row.result own.result
-        c.record_bound-bound.result rules.ensures (omega arith) c.records.invariant.1 row.ensures its_own (cc) c.loop-j.counts _ c.word_ok.result (omega arith) (omega arith)
-        c.loop-j.invariant.1 c.word_ok.ensures.value c.word_ok.ensures.counts_after in
+    judged c.args.words.now rules.result c.records.q c.loop-j.j c.records.start row.result own.result
+    c.record_bound-bound.result rules.ensures (omega arith) c.records.invariant.1 row.ensures its_own (cc) c.loop-j.counts _ c.word_ok.result (omega arith) (omega arith)
+    c.loop-j.invariant.1 c.word_ok.ensures.value c.word_ok.ensures.counts_after in
     let start = c.records.start in
     let e : start + (c.loop-j.j + 1) ≡ start + c.loop-j.j + 1 = omega arith in
     (omega arith, rw e (after.0 c.if-not-word_ok.false))
@@ -97,7 +97,7 @@ returns-then-not-word_ok c =
     let its_own = own.ensures ∙ ap (λ (rows : List (List ℕ)). record_sort rows rules.result c.records.q row.result c.loop-j.j) c.records.invariant.3 in
     let fit = record_in c.rule_count-rules.result c.records.q c.node_count-nodes.result (omega arith) in
     let after =
-        judged c.args.words.now rules.result c.records.q c.loop-j.j c.records.start row.result own.result
-        c.record_bound-bound.result rules.ensures (omega arith) c.records.invariant.1 row.ensures its_own (cc) c.loop-j.counts _ c.word_ok.result (omega arith) (omega arith)
-        c.loop-j.invariant.1 c.word_ok.ensures.value c.word_ok.ensures.counts_after in
+    judged c.args.words.now rules.result c.records.q c.loop-j.j c.records.start row.result own.result
+    c.record_bound-bound.result rules.ensures (omega arith) c.records.invariant.1 row.ensures its_own (cc) c.loop-j.counts _ c.word_ok.result (omega arith) (omega arith)
+    c.loop-j.invariant.1 c.word_ok.ensures.value c.word_ok.ensures.counts_after in
     after.1 c.if-not-word_ok.true

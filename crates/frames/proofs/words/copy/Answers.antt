@@ -7,6 +7,6 @@ overflow_add-last c = elim c.if-from-to.branch [ then-from-to v ↦ omega arith 
 
 pub copy_inside-requires : goal.copy_inside-requires
 copy_inside-requires c = elim c.if-from-to.branch [
-    then-from-to v ↦ (omega arith, omega arith, omega arith)
+  | then-from-to v ↦ (omega arith, omega arith, omega arith)
   | else-from-to v ↦ (omega arith, omega arith, omega arith)
-  ]
+]

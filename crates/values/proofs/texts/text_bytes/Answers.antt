@@ -17,12 +17,12 @@ returns-after-literal c =
     let m = c.args.message in
     let l = c.args.literals in
     elim c.if-literal.branch [
-      then-literal+else-end-literals w ↦
-        let h = past_literals m l c.in-Text.s c.in-Text.is w.if-literal.true w.if-end-literals.false in
-        record { bytes = h.0; place = h.1 }
-    | else-literal+else-end-message w ↦
-        let h = past_message m l c.in-Text.s c.in-Text.is w.if-literal.false w.if-end-message.false in
-        record { bytes = h.0; place = h.1 }
+      | then-literal+else-end-literals w ↦
+          let h = past_literals m l c.in-Text.s c.in-Text.is w.if-literal.true w.if-end-literals.false in
+          record { bytes = h.0; place = h.1 }
+      | else-literal+else-end-message w ↦
+          let h = past_message m l c.in-Text.s c.in-Text.is w.if-literal.false w.if-end-message.false in
+          record { bytes = h.0; place = h.1 }
     ]
 
 pub returns-in_default : goal.returns-in_default
