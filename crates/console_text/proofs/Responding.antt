@@ -22,7 +22,7 @@ use Rattle.console_text.specs.declared.request.Request.TheVariants as R
 use Rattle.console_text.specs.Asked.{Said, says, wrong_line, on_said, Asked, said}
 use Rattle.console_text.specs.Printed.{answer_key, number_line, answer_lines}
 use Rattle.console_text.specs.Console.{INPUT, longest_input, answer_to, line_record, ConsoleAnswer, too_long, wrong_at, ran, console_answer, printed, console_text}
-use Rattle.console_text.specs.Lent.{message_bytes, table_words, table_literals, output_bytes, input_line_bytes, Lent, lent, Roomy, enough, room_for, Readied, readied, ready, responded, afterwards, respond}
+use Rattle.console_text.specs.Lent.{message_bytes, table_words, table_literals, output_bytes, input_line_bytes, lent, Roomy, enough, room_for, Readied, readied, ready, responded, afterwards, respond}
 use Rattle.console_text.proofs.Lengths.{text_most}
 
 -- ════ Room ════

@@ -15,7 +15,7 @@ use Rattle.expressions.specs.declared.walks.Walk.{Walk}
 use Rattle.expressions.specs.declared.walks.Way.{Way}
 use Rattle.expressions.specs.declared.walks.Way.TheVariants.{Begins, Found, Left, Both}
 use Rattle.expressions.specs.Given.{given, held, operator_of, leaf_of}
-use Rattle.expressions.specs.Walks.{Asked, left, right, work_of, Filled, with_right, resolved, Goes, beginning, served, resting, turning, walking, in_way, halfway, result_found, half_found, has_left, has_both, looks_no_further, Seen, Opened, Reached, PastLeft, Steps}
+use Rattle.expressions.specs.Walks.{Asked, right, work_of, Filled, with_right, resolved, Goes, beginning, served, resting, turning, walking, in_way, halfway, result_found, half_found, has_left, has_both, looks_no_further, Seen, Opened, Reached, PastLeft, Steps}
 use Rattle.expressions.proofs.Nodes.{leaf_gives}
 use Rattle.expressions.proofs.Walking.{as_right, as_first, at_first, at_right, held_given, wants_right, as_left, began_left, began_end, began_work, turned_both, turned_end, turned_work, served_found, popped}
 

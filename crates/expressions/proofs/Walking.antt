@@ -16,7 +16,7 @@ use Rattle.table.specs.declared.records.Head.{Head}
 use Rattle.values.specs.Slots.{value_of}
 use Rattle.expressions.specs.declared.results.Given.{Given}
 use Rattle.expressions.specs.Given.{given_of, given, held, operator_of}
-use Rattle.expressions.specs.Walks.{Asked, Work, left, right, opposing, work_of, work_in, at_work, work_at, Filled, gives_at, resolved, kept, owed, Goes, beginning, served, resting, turning, looks_no_further, Seen, Steps}
+use Rattle.expressions.specs.Walks.{Asked, Work, left, right, opposing, work_of, work_in, at_work, work_at, Filled, gives_at, resolved, kept, owed, Goes, beginning, served, resting, turning, looks_no_further, Seen}
 use Rattle.expressions.proofs.Givens.{by_number, value_given, end_given, no_bool}
 use Rattle.expressions.proofs.Nodes.{operator_gives}
 

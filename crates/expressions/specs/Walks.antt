@@ -16,7 +16,7 @@ use Rattle.expressions.specs.declared.walks.Halfway.{Halfway}
 use Rattle.expressions.specs.declared.walks.Walk.{Walk}
 use Rattle.expressions.specs.declared.walks.Way.{Way}
 use Rattle.expressions.specs.declared.walks.Way.TheVariants.{Begins, Found, Left, Both}
-use Rattle.expressions.specs.Given.{given_of, given, held, operator_of}
+use Rattle.expressions.specs.Given.{given, held, operator_of}
 
 -- what doesn't change during a walk
 pub record Asked : Type 0 where

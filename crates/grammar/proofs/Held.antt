@@ -1,6 +1,6 @@
 -- A run goes forward inside the message, keeps the number of its slots, and holds in them only values that are good: of any property that absent
 -- values, Bools, Integers and parts of the message have, where the grammar's Text literals have it. Whatever the grammar. Assumes nothing.
-use mathlib.Core.Path.{◌≡◌, refl, sym, ◌∙◌}
+use mathlib.Core.Path.{◌≡◌, refl, ◌∙◌}
 use mathlib.Core.List.{List, [], ◌∷◌, ◌++◌}
 use mathlib.Core.Bool.{Bool, true, false, cond}
 use Prim.Native.Nat.{ℕ, zero, suc, ◌+◌, ◌-◌, ◌≤◌}

@@ -15,7 +15,6 @@ use Rattle.grammar.specs.declared.Verdict.{Verdict}
 use Rattle.grammar.specs.declared.Verdict.TheVariants.{Passed, Size, Field, Use, Start, Untyped, Long, Work}
 use Rattle.grammar.specs.declared.Node.{Node}
 use Rattle.grammar.specs.declared.Node.TheVariants as N
-use Rattle.grammar.specs.declared.Answer.{Answer}
 use Rattle.grammar.specs.declared.Mode.{Mode}
 use Rattle.grammar.specs.declared.Mode.TheVariants.{Bench, Display}
 use Rattle.grammar.specs.declared.Span.{Span}
@@ -24,7 +23,7 @@ use Rattle.grammar.specs.declared.Value.TheVariants as Val
 use Rattle.grammar.specs.Words.{rule_count, node_count, literal_count, rule_word, inherited_count, returned_count, node_at}
 use Rattle.grammar.specs.Tree.{Expr, bool, integer, text, slot, binary, negation}
 use Rattle.grammar.specs.Tree.{Parsing, empty, terminal, sequence, choice, repeat, unless, call, bind, update, constraint}
-use Rattle.grammar.specs.Tree.{levels_of, expr_of, parsing_of, expr_with, expr_at, parsing_with, parsing_at, Grammar, rule_of, rule_at, grammar_of}
+use Rattle.grammar.specs.Tree.{levels_of, expr_of, parsing_of, expr_with, expr_at, parsing_with, parsing_at, rule_of, rule_at, grammar_of}
 use Rattle.grammar.specs.Form.{table_check}
 use Rattle.grammar.specs.Values.{Evaluated, value, slice_of, span_bytes, text_bytes, same_texts, equal}
 use Rattle.grammar.specs.Run.{Slots, Setting, Tally, counted, eval, eval_all, Applied, matched, failed, ended, out_of_fuel, next, giving_back, onward, with_value, fresh, message_part, rounds, Due, fine, no_budget, too_deep, due, visit, admit, apply}

@@ -1,6 +1,6 @@
 -- Values: 32-bit arithmetic, the bytes of a Text, equality, and what an expression's operators make of them (document 01, 'Running').
 -- Assumes nothing.
-use Rattle.std.specs.Prelude.{List, [], ◌∷◌, Bool, true, false, cond, not, ◌&&◌, ℕ, zero, suc, ◌+◌, ltb, leb, eqb, ℤ, pos, negsuc, ◌+ℤ◌, ◌-ℤ◌, ◌*ℤ◌, length, take, drop}
+use Rattle.std.specs.Prelude.{List, [], Bool, true, false, cond, not, ℕ, zero, suc, ◌+◌, leb, eqb, ℤ, pos, negsuc, ◌+ℤ◌, ◌-ℤ◌, ◌*ℤ◌, length, take, drop}
 use Rattle.std.specs.Bool.{beq}
 use Rattle.std.specs.Int.Signed.{lt_z, quot_z}
 use Rattle.laws.specs.Same.{same}

@@ -1,7 +1,7 @@
 -- What reading a listing answers, and what the two slices hold then (document 01, 'Listing and console'), line by line. The listing stands in the
 -- text from a place on, to the text's end, and `first` is the number of its first line. Plain.antt says of the whole which texts are
 -- accepted, when ROOM comes, and which line is told. Assumes nothing.
-use Rattle.std.specs.Prelude.{List, [], ◌∷◌, Bool, cond, ◌&&◌, ℕ, zero, suc, ◌+◌, ◌*◌, ltb, leb, eqb, length, drop}
+use Rattle.std.specs.Prelude.{List, [], ◌∷◌, cond, ℕ, zero, suc, ◌+◌, ◌*◌, ltb, eqb, length, drop}
 use Rattle.laws.specs.Stores.{over}
 use Rattle.text.specs.declared.Place.{Place}
 use Rattle.text.specs.declared.Place.TheVariants.{Wrong as NoPlace, At as ToPlace}

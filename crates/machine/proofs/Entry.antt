@@ -3,7 +3,7 @@
 use mathlib.Core.Path.{◌≡◌, refl, sym, ap, ap₂, ◌∙◌}
 use mathlib.Core.Bool.{Bool, true, false}
 use mathlib.Core.List.{List, []}
-use Prim.Native.Nat.{ℕ, suc, ◌-◌, ◌≤◌}
+use Prim.Native.Nat.{ℕ, suc, ◌≤◌}
 use native.Mathlib.Omega.{arith}
 use borrow.Author.Tests.{leb-true, ltb-true, ltb-false}
 use lib.Dec.{leb, ltb}
@@ -15,7 +15,7 @@ use Rattle.grammar.specs.declared.Verdict.TheVariants.{Passed, Long, Work}
 use Rattle.grammar.specs.declared.Mode.{Mode}
 use Rattle.grammar.specs.declared.Mode.TheVariants.{Bench, Display}
 use Rattle.grammar.specs.Words.{node_count, node_start, nodes, node_for, node_at, rule_word}
-use Rattle.grammar.specs.Tree.{Rule, parsing_of, parsing_with, parsing_at, node, rule_of, rule_at, grammar_of}
+use Rattle.grammar.specs.Tree.{Rule, parsing_of, parsing_with, parsing_at, rule_of, rule_at, grammar_of}
 use Rattle.grammar.specs.Values.{Evaluated, value, ends}
 use Rattle.grammar.specs.Form.{followed_by, unless_ok, table_check}
 use Rattle.grammar.specs.Run.{Setting, Applied, matched, next, onward, with_value, eval_all, fresh, apply}

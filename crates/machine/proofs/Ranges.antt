@@ -17,7 +17,6 @@ use Rattle.grammar.specs.declared.Arithmetic.TheVariants.{Add, Subtract, Multipl
 use Rattle.grammar.specs.declared.Operator.{Operator}
 use Rattle.grammar.specs.declared.Operator.TheVariants.{Calculate, Equal, Greater, And, Or}
 use Rattle.grammar.specs.declared.Fault.{Fault}
-use Rattle.grammar.specs.declared.Number.TheVariants.{Not}
 use Rattle.grammar.specs.declared.Ending.TheVariants.{Stuck, «Fault» as AtFault}
 use Rattle.grammar.specs.declared.Span.{Span}
 use Rattle.grammar.specs.declared.Value.{Value}

@@ -23,7 +23,7 @@ use Rattle.grammar.specs.Tree.{four}
 use Rattle.grammar.specs.Values.{Evaluated}
 use Rattle.grammar.specs.Run.{Tally, matched, failed, with_value, judged, fresh, byte_stands}
 use Rattle.grammar.specs.Answer.{setting_of, work_words}
-use Rattle.frames.specs.Frames.{base, slots_in, written, pushed}
+use Rattle.frames.specs.Frames.{base, slots_in, pushed}
 use Rattle.stages.specs.declared.Stage.{Stage}
 use Rattle.stages.specs.declared.Stage.TheVariants as St
 use Rattle.stages.specs.declared.Run.{Run}

@@ -1,5 +1,5 @@
 -- Where the bytes of a Text are handed out. Assumes nothing.
-use Rattle.std.specs.Prelude.{Bool, cond, List, ℕ, ◌+◌}
+use Rattle.std.specs.Prelude.{cond, List, ℕ, ◌+◌}
 use Rattle.std.specs.Borrow.{Bor}
 use Rattle.grammar.specs.declared.Span.{Span}
 use Rattle.grammar.specs.declared.Value.{Value}

@@ -1,14 +1,6 @@
 -- `form::check` meets its contract. Assumes nothing.
-use mathlib.Core.Bool.{true}
-use mathlib.Core.Path.{◌≡◌, refl, sym, ◌∙◌}
-use Prim.Native.Nat.{◌<◌, ◌≤◌}
+use mathlib.Core.Path.{refl, sym, ◌∙◌}
 use native.Mathlib.Omega.{arith}
-use borrow.Author.Tests.{not-false}
-use lib.ListN.{length}
-use Rattle.grammar.specs.Words.{inherited_count}
-use Rattle.grammar.specs.declared.Verdict.TheVariants.{Passed, Use, Start}
-use Rattle.grammar.specs.Form.{size_ok, table_check}
-use Rattle.form.specs.Scan.{Sized}
 use Rattle.form.proofs.Order.{size_passed, at_size, at_field, after_scan}
 use Rattle.form.proofs.check.Goals as goal
 

@@ -2,7 +2,6 @@ use Rattle.listing.proofs.Fills.{fills_wrong, fills_room, fills_room_2, fills_li
 use Rattle.listing.proofs.Whole.{head_found}
 use native.Mathlib.Omega.{arith}
 use mathlib.Core.Path.{sym, ◌∙◌}
-use borrow.Author.Rules.{rules}
 use Rattle.listing.proofs.read_from.Goals as goal
 
 pub returns-then-words-size : goal.returns-then-words-size

@@ -1,6 +1,5 @@
 use Rattle.text.proofs.Keys.{key_done, key_past, key_other, key_more}
 use native.Mathlib.Omega.{arith}
-use Prim.Native.Nat.{◌-◌}
 use mathlib.Core.Path.{refl, sym, ◌∙◌}
 use Rattle.text.proofs.after_key.Goals as goal
 

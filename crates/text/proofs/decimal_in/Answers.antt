@@ -1,5 +1,5 @@
 use native.Mathlib.Omega.{arith}
-use lib.ListN.{length, length-set}
+use lib.ListN.{length-set}
 use mathlib.Core.Path.{sym, ◌∙◌}
 use Rattle.text.proofs.Decimals.{digit_none, digit_room, digit_more, digit_first}
 use Rattle.text.proofs.decimal_in.Goals as goal

@@ -1,8 +1,7 @@
 use Rattle.text.proofs.Writing.{left_all, left_step, left_done, left_length}
 use Rattle.laws.specs.Parts.{drop_one}
-use lib.ListN.{length, drop, drop_of_length-le}
+use lib.ListN.{drop_of_length-le}
 use native.Mathlib.Omega.{arith}
-use Prim.Native.Nat.{◌-◌}
 use Rattle.text.proofs.put_bytes.Goals as goal
 
 pub loop-i-init : goal.loop-i-init

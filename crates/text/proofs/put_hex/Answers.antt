@@ -1,11 +1,9 @@
 use Rattle.text.proofs.Pairs.{hex_one, hex_none}
 use Rattle.text.proofs.Writing.{wrote_then, wrote_as, left_all, left_step, left_done, left_length}
-use Rattle.text.specs.Written.{hex}
-use lib.ListN.{length}
 use native.Mathlib.Omega.{arith}
 use mathlib.Core.List.{[], ◌∷◌}
 use mathlib.Core.Path.{ap}
-use Prim.Native.Nat.{ℕ, ◌-◌}
+use Prim.Native.Nat.{ℕ}
 use Rattle.text.proofs.put_hex.Goals as goal
 
 pub loop-i-init : goal.loop-i-init

@@ -1,10 +1,8 @@
 use Rattle.text.proofs.Pairs.{pairs_past, pairs_end, pairs_odd, pairs_wrong, pairs_more}
 use Rattle.text.proofs.Taking.{still_all, still_step, still_end, still_length}
 use Rattle.text.proofs.Writing.{wrote_as}
-use Rattle.text.specs.Found.{pairs}
-use lib.ListN.{length}
 use native.Mathlib.Omega.{arith}
-use Prim.Native.Nat.{ℕ, ◌-◌}
+use Prim.Native.Nat.{ℕ}
 use mathlib.Core.List.{[], ◌∷◌}
 use mathlib.Core.Path.{ap}
 use Rattle.text.proofs.read_hex.Goals as goal

@@ -1,7 +1,5 @@
 use Rattle.text.proofs.Numbers.{number_past, number_wrong, number_first, from_past, from_end, from_wrong, from_more}
-use Rattle.text.specs.Found.{number}
 use native.Mathlib.Omega.{arith}
-use Prim.Native.Nat.{◌-◌}
 use mathlib.Core.Path.{sym, ◌∙◌}
 use Rattle.text.proofs.read_number.Goals as goal
 

@@ -1,7 +1,6 @@
 use Rattle.typing.proofs.Whole.{refusal_stands}
 use Rattle.grammar.specs.Answer.{type_check, type_rules}
 use mathlib.Core.Path.{sym, ◌∙◌}
-use borrow.Author.Rules.{rules}
 use Rattle.typing.proofs.type_check.Goals as goal
 
 pub typed_rules-requires : goal.typed_rules-requires

@@ -1,5 +1,3 @@
-use mathlib.Core.Logic.{⊎_elim}
-use Rattle.laws.specs.Apart.{past}
 use Rattle.frames.specs.Frames.{slots_in}
 use mathlib.Core.Path.{◌∙◌}
 use native.Mathlib.Omega.{arith}

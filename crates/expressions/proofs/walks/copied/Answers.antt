@@ -1,5 +1,4 @@
 use native.Mathlib.Omega.{arith}
-use Prim.Native.Nat.{◌-◌}
 use lib.ListN.{length, length-set}
 use mathlib.Core.Path.{◌≡◌, refl, ◌∙◌}
 use Rattle.expressions.proofs.Whole.{alike_more}

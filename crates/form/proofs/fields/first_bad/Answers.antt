@@ -1,18 +1,16 @@
 -- `form::fields::first_bad` meets its contract. Every word before the record, and in it every word before `j`, is right, and its use is counted. Assumes nothing.
-use Prim.Native.Nat.{ℕ, ◌+◌, ◌-◌, ◌<◌, ◌≤◌}
-use mathlib.Core.Bool.{true, false}
+use Prim.Native.Nat.{ℕ, ◌+◌}
 use mathlib.Core.List.{List}
 use mathlib.Core.Path.{◌≡◌, refl, ◌∙◌, ap}
 use native.Mathlib.Omega.{arith}
-use borrow.Author.Rules.{rules}
 use lib.ListN.{length}
 use Rattle.grammar.specs.Words.{node_count}
 use Rattle.grammar.specs.Form.{field_sorts}
 use Rattle.form.specs.Sorts.{number_of}
-use Rattle.form.specs.Scan.{record_start, record_sort, Scanned}
+use Rattle.form.specs.Scan.{record_start, record_sort}
 use Rattle.form.proofs.Rows.{row_few}
 use Rattle.form.proofs.Places.{start_zero, start_end, start_next, record_in}
-use Rattle.form.proofs.Seen.{Seen, seen_none, room, at_all}
+use Rattle.form.proofs.Seen.{seen_none, room, at_all}
 use Rattle.form.proofs.Asked.{judged}
 use Rattle.form.proofs.fields.first_bad.Goals as goal
 

@@ -1,6 +1,5 @@
 use Prim.Native.Nat.{◌+◌, ◌-◌, ◌≤◌}
 use mathlib.Core.Path.{◌≡◌}
-use borrow.Author.Rules.{rules}
 use Rattle.form.specs.Scan.{record_start}
 use Rattle.form.proofs.Rows.{field_numbers}
 use Rattle.form.proofs.Seen.{Seen}

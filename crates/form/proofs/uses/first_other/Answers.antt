@@ -1,7 +1,6 @@
 -- `form::uses::first_other` meets its contract. Every count before `k` is 1. Assumes nothing.
 use mathlib.Core.Bool.{true}
 use mathlib.Core.Path.{◌≡◌, sym}
-use Prim.Native.Nat.{◌-◌}
 use native.Mathlib.Omega.{arith}
 use borrow.Author.Count.{below_more}
 use borrow.Author.Tests.{eq-eqb, ne_eqb, lt-ltb, le-ltb}

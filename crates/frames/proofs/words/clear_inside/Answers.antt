@@ -1,7 +1,6 @@
 use Rattle.frames.proofs.Laws.{cleared_more}
 use Rattle.frames.specs.Frames.{cleared}
-use lib.ListN.{length, length-set}
-use Prim.Native.Nat.{◌-◌}
+use lib.ListN.{length-set}
 use native.Mathlib.Omega.{arith}
 use mathlib.Core.Path.{refl, ap, ◌∙◌}
 use Rattle.frames.proofs.words.clear_inside.Goals as goal

@@ -1,6 +1,5 @@
 use Rattle.frames.proofs.Laws.{copied_more}
 use Rattle.frames.specs.Frames.{copied}
-use Prim.Native.Nat.{◌-◌}
 use native.Mathlib.Omega.{arith}
 use mathlib.Core.Path.{refl, ap, ◌∙◌}
 use Rattle.frames.proofs.words.copy_across.Goals as goal

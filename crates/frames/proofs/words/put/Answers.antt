@@ -1,7 +1,7 @@
 use Rattle.frames.proofs.Laws.{stored_more}
 use Rattle.frames.specs.Frames.{stored}
-use lib.ListN.{length, length-set}
-use Prim.Native.Nat.{◌-◌, ◌+◌}
+use lib.ListN.{length-set}
+use Prim.Native.Nat.{◌+◌}
 use native.Mathlib.Omega.{arith}
 use mathlib.Core.Path.{refl, ap, ◌∙◌}
 use Rattle.frames.proofs.words.put.Goals as goal

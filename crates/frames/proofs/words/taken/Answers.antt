@@ -1,6 +1,5 @@
 use Rattle.frames.proofs.Laws.{taken_more}
-use lib.ListN.{length, length-set}
-use Prim.Native.Nat.{◌-◌}
+use lib.ListN.{length-set}
 use native.Mathlib.Omega.{arith}
 use mathlib.Core.Path.{refl, ◌∙◌}
 use Rattle.frames.proofs.words.taken.Goals as goal

@@ -4,7 +4,6 @@ use Rattle.listing.proofs.Found.{lines_found}
 use Rattle.text.proofs.Taking.{took_as, took_to, took_wrote, wrote_took}
 use native.Mathlib.Omega.{arith}
 use mathlib.Core.Path.{sym, ◌∙◌}
-use borrow.Author.Rules.{rules}
 use Rattle.listing.proofs.reader.read_body.Goals as goal
 
 pub returns-in_default : goal.returns-in_default

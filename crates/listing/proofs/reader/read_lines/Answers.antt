@@ -2,7 +2,6 @@ use Rattle.text.proofs.Taking.{took_length}
 use Rattle.listing.proofs.Steps.{lines_at_done, lines_at_wrong, lines_at_more}
 use Rattle.listing.proofs.Found.{line_found}
 use Rattle.listing.proofs.Lines.{record_room}
-use Rattle.listing.specs.Reading.{lines_at}
 use Rattle.text.proofs.Taking.{still_all, still_step, still_end, still_last, still_length, took_wrote}
 use Rattle.text.specs.Stored.{largest_place}
 use native.Mathlib.Omega.{arith}

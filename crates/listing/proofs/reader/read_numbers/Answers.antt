@@ -1,5 +1,4 @@
 use Rattle.listing.proofs.Steps.{numbers_at_done, numbers_at_wrong, numbers_at_more}
-use Rattle.listing.specs.Reading.{numbers_at}
 use Rattle.text.proofs.Taking.{still_all, still_step, still_end, still_length}
 use Rattle.text.proofs.Numbers.{number_within_lem}
 use lib.ListN.{drop}

@@ -2,7 +2,6 @@ use Rattle.listing.proofs.Lines.{listing_is}
 use Rattle.table.proofs.Size.{size_facts}
 use Rattle.text.proofs.Writing.{wrote_then, wrote_as}
 use native.Mathlib.Omega.{arith}
-use borrow.Author.Rules.{rules}
 use Rattle.listing.proofs.writer.put_listing.Goals as goal
 
 pub bounds-words-0 : goal.bounds-words-0

@@ -1,9 +1,7 @@
 use Rattle.listing.proofs.Lines.{numbers_one, numbers_none}
-use Rattle.listing.specs.Listing.{numbers}
 use Rattle.text.proofs.Writing.{wrote_then, wrote_as, left_all, left_step, left_done, left_length}
-use lib.ListN.{length}
 use native.Mathlib.Omega.{arith}
-use Prim.Native.Nat.{ℕ, ◌-◌}
+use Prim.Native.Nat.{ℕ}
 use mathlib.Core.List.{[], ◌∷◌}
 use mathlib.Core.Path.{refl, ap}
 use Rattle.listing.proofs.writer.put_numbers.Goals as goal

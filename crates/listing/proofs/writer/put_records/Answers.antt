@@ -2,7 +2,6 @@ use Rattle.listing.proofs.Lines.{record_room, records_one, records_none}
 use Rattle.text.proofs.Writing.{left_all, left_step, left_done, left_length}
 use lib.ListN.{length}
 use native.Mathlib.Omega.{arith}
-use Prim.Native.Nat.{◌-◌}
 use mathlib.Core.Path.{refl}
 use Rattle.listing.proofs.writer.put_records.Goals as goal
 

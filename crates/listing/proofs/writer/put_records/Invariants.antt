@@ -1,7 +1,7 @@
 use Rattle.listing.specs.Listing.{record_lines}
 use Rattle.text.proofs.Writing.{Left}
 use lib.ListN.{length, drop}
-use Prim.Native.Nat.{◌+◌, ◌-◌, ◌*◌, ◌≤◌}
+use Prim.Native.Nat.{◌+◌, ◌*◌, ◌≤◌}
 use Rattle.listing.proofs.writer.put_records.Given as goal
 
 abbrev pub invariant-loop-left : goal.invariant-loop-left

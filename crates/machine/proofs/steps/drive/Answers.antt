@@ -1,5 +1,4 @@
 use Rattle.machine.proofs.Weight.{driven_rest}
-use Rattle.machine.specs.Drive.{driven}
 use Rattle.stages.specs.Stages.{with}
 use mathlib.Core.Path.{refl, sym, ◌∙◌}
 use Rattle.machine.proofs.steps.drive.Goals as goal

@@ -1,9 +1,7 @@
 use Rattle.laws.specs.Range.{outside}
 use Rattle.table.proofs.Size.{Sized, size_wrong, size_found}
-use borrow.Author.Tests.{not-true, not-false}
 use native.Mathlib.Omega.{arith}
 use mathlib.Core.Path.{sym, ◌∙◌}
-use borrow.Author.Rules.{rules}
 use Rattle.table.proofs.sizes.size_ok.Goals as goal
 
 pub returns-then-words-lt3 : goal.returns-then-words-lt3
