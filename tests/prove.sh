@@ -1,7 +1,7 @@
 #!/usr/bin/env bash
 # prove.sh NAME CRATE WORDS..: runs rt WORDS.. (check, lib or run) in the crate's folder, what it says into target/log/NAME. The first time this takes minutes: so a line on
 # standard error says what is done and how long it usually takes, and a line comes as each crate is proved that was not proved before. Where READER_QUIET is set there is neither.
-# On failure the last 20 lines of what rt said are on standard error, and the status is 2 where rt's was (the toolchain failed), else 1. An rt that says nothing of the crate
+# On failure the last 20 lines of what rt said, but for its counts of libraries, are on standard error, and the status is 2 where rt's was (the toolchain failed), else 1. An rt that says nothing of the crate
 # has failed too.
 set -euo pipefail
 cd "$(dirname "$0")/.."
@@ -48,7 +48,7 @@ follow() {
         printf '%s\n' "$line"
         if [[ $line =~ ^crate\ ([a-z_0-9]+):\ modules\ loaded=[0-9]+\ checked=([0-9]+)$ ]]; then
             one=${BASH_REMATCH[1]} checked=${BASH_REMATCH[2]}
-        elif [[ $line == logic=proved\ * && -n ${on[$one]+there} ]]; then
+        elif [[ $line == logic=proved\ * && -n $one && -n ${on[$one]+there} ]]; then
             for below in $one ${on[$one]}; do proved[$below]=1; done
             seconds=$((SECONDS - began)) began=$SECONDS
             [ "$checked" = 0 ] || tell "proved: ${#proved[@]} of $all, $one ($seconds s)"
@@ -66,9 +66,9 @@ status=0
 # a program that was built and started has a status of its own
 ! grep -q "^rt: running out/$crate;" "$log" || status=0
 if [ "$status" = 0 ]; then
-    if grep -q "^crate $crate: modules " "$log" && grep -q '^logic=proved ' "$log" || grep -q '^rt: nothing has changed since the last proved build, ' "$log"; then exit; fi
+    if awk -v crate="crate $crate: modules " 'index($0, crate) == 1 { here = 1 } here && /^logic=proved / || /^rt: nothing has changed since the last proved build, / { told = 1 } END { exit !told }' "$log"; then exit; fi
     echo "rt $* says nothing of $crate" >&2
 fi
-tail -n 20 "$log" >&2
+grep -vE '^(statements|logic|library) ' "$log" | tail -n 20 >&2 || true
 [ "$status" != 2 ] || exit 2
 exit 1
