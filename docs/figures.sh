@@ -57,7 +57,7 @@ by_crate() {
         specs=$(lines $(files "crates/$crate/specs" '*.antt'))
         # shellcheck disable=SC2046
         proofs=$(lines $(files "crates/$crate/proofs" '*.antt'))
-        wrong=$(edits "crates/$crate/must-fail/code")
+        wrong=$(edits "crates/$crate/wrong/code")
         checked=$(seconds "$crate")
         echo "| $crate | $code | $contracts | $specs | $proofs | $(ratio "$proofs" "$code") | $wrong | ${checked:-–} |"
         all_code=$((all_code + code)) all_contracts=$((all_contracts + contracts)) all_specs=$((all_specs + specs)) all_proofs=$((all_proofs + proofs))
