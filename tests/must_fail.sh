@@ -4,6 +4,10 @@
 # refused where a fact of that function's own does not close: one of its goals, which has no proof or whose answer is refused, by the prover's own words. Not enough are: that
 # the function isn't proved because one that it calls isn't; and that its proof has lost its shape, since it names what the edit has taken out of the function.
 #
+# Goals are named by the code that they are about, so that another value there can be another name: then the shape is lost, and with it nothing else. Such an edit says by a line
+# `renames: OLD NEW` (or by several) how the proof's names go on, as counts-k-ne1, counts-k-eq0. Where the shape is lost, and the prover misses a name with OLD in it, the proof of
+# that function is tried once more with NEW in the place of OLD, and a fact must be refused.
+#
 # A wrong program that is another order of calls or branches can't but change the shape. Its edit says so, `shape: changes`, and names a console input,
 # `told by: FILE`: the console program with the edit, compiled without a proof and run on that input, must print something else than the stored answer.
 #
@@ -168,6 +172,36 @@ refusals() { # CRATE FOLDER
         }' "$2/log" | sort -u
 }
 
+# The names that the proof of the function names and the prover doesn't find, in one line.
+lost_names() { # FOLDER FUNCTION
+    awk -v from="proofs/${2//:://}/" '
+        /\.antt:[0-9]+:[0-9]+: error: / && (index($0, from) == 1 || index($0, "./" from) == 1) {
+            if (match($0, / has no (field )?`[^`]+`/)) { name = substr($0, RSTART, RLENGTH); sub(/^[^`]*/, "", name) }
+            else if (match($0, /`[^`]+` is not in scope/)) { name = substr($0, RSTART, RLENGTH); sub(/ is.*/, "", name) }
+            else next
+            gsub(/`/, "", name)
+            if (!seen[name]++) names = names (names ? " " : "") name
+        }
+        END { print names }' "$1/log"
+}
+
+# Brings the names in the proof of the edit's function to what the edit makes of them. Each that is to be renamed must be among those that the prover has missed.
+rename() { # CRATE FOLDER EDIT
+    local old new function missed
+    function=$(function_of "$3")
+    missed=$(lost_names "$2" "$function")
+    while read -r old new; do
+        [[ $missed == *"$old"* ]] || return 1
+        sed -i -E "s/(^|[^A-Za-z0-9_])$old([^A-Za-z0-9_]|\$)/\1$new\2/g; s/(^|[^A-Za-z0-9_])$old([^A-Za-z0-9_]|\$)/\1$new\2/g" "$2/crates/$1/proofs/${function//:://}"/*.antt
+    done < <(said_of "$3" renames)
+}
+
+# The proofs without any renamed name.
+unrenamed() { # CRATE FOLDER
+    rm -rf "$2/crates/$1/proofs"
+    [ ! -d "$top/crates/$1/proofs" ] || cp -R "$top/crates/$1/proofs" "$2/crates/$1"
+}
+
 # Makes these edits in the code as it stands; the first that doesn't fit beside those before it is left in `unfit`.
 make() { # CRATE FOLDER EDIT..
     local crate=$1 folder=$2
@@ -236,6 +270,11 @@ alone() { # CRATE FOLDER EDIT
     as_checked "$1" "$2"
     make "$1" "$2" "$3"
     check "$1" "$2" "$3"
+    if [ -n "$(said_of "$3" renames)" ]; then
+        if [ "$(facts_of "$3")" != - ] || ! rename "$1" "$2" "$3"; then fail "$1/$(basename "$3" .edit): its names are not those that the proof of $(function_of "$3") has lost"; unrenamed "$1" "$2"; return; fi
+        check "$1" "$2" "$3"
+        unrenamed "$1" "$2"
+    fi
     judge "$1" "$2" "$3" "$(facts_of "$3")"
 }
 
@@ -249,7 +288,7 @@ judge() { # CRATE FOLDER EDIT FACTS
     elif [ -z "$4" ]; then
         fail "$name: NOT REFUSED at $(named "$3")"
     elif [ "$4" = - ]; then
-        fail "$name: REFUSED FOR ITS SHAPE ALONE: the proof of $function names what is not there"
+        fail "$name: REFUSED FOR ITS SHAPE ALONE: the proof of $function names what is not there: $(lost_names "$2" "$function")"
     elif [ -n "$(said_of "$3" shape)" ]; then
         fail "$name: says that its shape changes, and is refused at $function, $4"
     else
@@ -296,7 +335,7 @@ one_crate() { # CRATE
         if [ -n "$wrong" ]; then fail "$1/$(basename "$edit" .edit): $wrong"; continue; fi
         # a control goes first, so that it is tried with as many others as there can be; who else reads a constant isn't known, so that its edit is tried alone
         if is_control "$edit"; then pending=("$edit" ${pending[@]+"${pending[@]}"})
-        elif [ -n "$(said_of "$edit" constant)" ]; then open+=("$edit")
+        elif [ -n "$(said_of "$edit" 'constant|renames')" ]; then open+=("$edit")
         else pending+=("$edit"); fi
     done
     if [ ${#pending[@]} -lt 2 ] || ! is_control "${pending[0]}"; then

@@ -23,8 +23,8 @@ renamed 'a law that is not there' 'ran-to is not in crates/machine/proofs/Entry'
 renamed 'a fact of a proof that is not there' 'records-held is not in crates/form/proofs/fields/first_bad' 's/`records-holds`/`records-held`/'
 renamed 'a function that is not there' 'steps is not in crates/machine/src' 's/machine `step`/machine `steps`/'
 renamed 'a function of another crate' 'limits is not in crates/form/src' 's/runs `limits`/form `limits`/'
-renamed 'a function without a file that the head leaves out' 'crates/listing/proofs/read/Proof.antt is not there' 's/; listing `read`; console_text/; console_text/'
-renamed 'a function with a file that the head has among those without' 'crates/table/proofs/sizes/size_ok/Proof.antt is there' 's/(No file.*: table )/\1`size_ok`, /'
+renamed 'a function without a file that the head leaves out' 'crates/listing/proofs/read is not there' 's/; listing `read`; console_text/; console_text/'
+renamed 'a function with a file that the head has among those without' 'crates/table/proofs/sizes/size_ok is there' 's/(No file.*: table )/\1`size_ok`, /'
 renamed 'a wrong definition that is not there' 'crates/grammar/must-fail/not_restores.edit is not there' 's/`not_restores_slots`/`not_restores`/'
 renamed 'a wrong program that is not there' 'crates/runs/wrong/code/does_more.edit is not there' 's/`does_nothing`/`does_more`/'
 renamed 'a group that is not there' 'table has no group and no case "2 FIELDS"' 's/"2 FIELD"/"2 FIELDS"/'
@@ -41,7 +41,7 @@ renamed 'empty' 'nothing of this kind was found' d
 # What it names has moved.
 fresh
 mv crates/form/proofs/fields/first_bad crates/form/proofs/first_bad
-fails 'meaning, a proof in another folder' 'crates/form/proofs/fields/first_bad/Proof.antt is not there' tests/meaning.sh
+fails 'meaning, a proof in another folder' 'crates/form/proofs/fields/first_bad is not there' tests/meaning.sh
 fresh
 change tests/vectors/runs.cases 's/^both M: /both MM: /'
 fails 'meaning, a bench case that is not there' 'runs has no case M' tests/meaning.sh

@@ -20,6 +20,7 @@ edit another_shape 'refused: ended_at' 'file: src/lib.rt' 'old:         Ending::
     'new:         Ending::Deep => if k == 0 { Stage::Deep(k) } else { Stage::Stuck(k) },'
 edit not_told 'shape: changes' 'told by: examples/case-a/case-a.console' 'refused: ended_at' 'file: src/lib.rt' \
     'old:         Ending::Deep => Stage::Deep(k),' 'new:         Ending::Deep => if k == 0 { Stage::Deep(k) } else { Stage::Stuck(k) },'
+edit not_lost 'renames: at to' 'refused: move_to' 'file: src/lib.rt' 'old:         visits: run.visits,' 'new:         visits: 8,'
 tests/must_fail.sh >said 2>&1 && ended=0 || ended=1
 
 says() { # LINE: the script has said so
@@ -33,6 +34,7 @@ says 'no_control: a control, and it changes more than white space'
 says 'nameless: it does not name one function'
 says 'not_there: an old text does not stand in its file just once'
 says 'another_shape: REFUSED FOR ITS SHAPE ALONE'
+says 'not_lost: its names are not those that the proof of move_to has lost'
 says 'not_told: NOT TOLD by examples/case-a/case-a.console: as stored'
 says 'visits_forgotten: refused at move_to, returns'
 says 'control: not refused, as a control must be'
