@@ -116,7 +116,7 @@ pointers() {
 # constructor, field or goal.
 standing() {
     find crates -path 'crates/*/out' -prune -o -name '*.antt' -exec awk '
-        FNR == 1 { file = FILENAME; gsub(/^crates\/|(\/(Answers|Invariants|Proof))?\.antt$/, "", file); print file "\t" }
+        FNR == 1 { file = FILENAME; gsub(/^crates\/|\.antt$/, "", file); if (file ~ /^[a-z_0-9]+\/proofs\/.*\//) sub(/\/(Answers|Invariants|Proof)$/, "", file); print file "\t" }
         /^ *((pub|abbrev|unfoldable|data|record) )*[^ ]+( [({].*)? :( |$)/ {
             name = $0; gsub(/^ *((pub|abbrev|unfoldable|data|record) )*/, "", name); sub(/ .*/, "", name)
             print file "\t" name
