@@ -33,7 +33,7 @@ renamed 'a console input that is not there' 'tests/console/line-99-*.console is 
 renamed 'a file that is not there' 'examples/destinations is not there' 's|`examples/destination`|`examples/destinations`|'
 renamed 'a test that is not there' 'the_most_nodes is not in tests/tests/bench_cases.rs' 's/`the_most_rules`/`the_most_nodes`/'
 renamed 'a name in no form' 'size_ok stands in none of the forms' 's/Form: `size_ok`/`size_ok`/'
-renamed 'a file to believe with other lines' 'crates/grammar/specs/Run.antt: 188 lines, not 187' '/Run.antt` \|/s/188/187/'
+renamed 'a file to believe with other lines' 'crates/grammar/specs/Run.antt: 184 lines, not 183' '/Run.antt` \|/s/184/183/'
 renamed 'a file to believe that is not there' 'crates/grammar/specs/Runs.antt' 's,(crates/grammar/specs/Run)[.]antt`,\1s.antt`,'
 renamed 'no table' 'nothing of this kind was found' '/^\|/d'
 renamed 'empty' 'nothing of this kind was found' d
