@@ -280,13 +280,14 @@ alone() { # CRATE FOLDER EDIT
 
 # What is to be said of an edit of whose function these facts do not close.
 judge() { # CRATE FOLDER EDIT FACTS
-    local name function
+    local name function others
     name=$1/$(basename "$3" .edit)
     function=$(function_of "$3")
     if is_control "$3"; then
         judge_control "$name" "$2/log" "$4"
     elif [ -z "$4" ]; then
-        fail "$name: NOT REFUSED at $(named "$3")"
+        others=$(awk -v of="$function" '$1 == of { print $2 }' <<<"$refused" | paste -sd ' ')
+        fail "$name: NOT REFUSED at $(named "$3")${others:+, but at: $others}"
     elif [ "$4" = - ]; then
         fail "$name: REFUSED FOR ITS SHAPE ALONE: the proof of $function names what is not there: $(lost_names "$2" "$function")"
     elif [ -n "$(said_of "$3" shape)" ]; then
