@@ -1,6 +1,6 @@
 #!/usr/bin/env bash
 # figures.sh [LOG]: prints docs/FIGURES.md. What can be counted is counted; the seconds and the number of controls are taken from the log of a run of ./test, if one is given
-# (`time ./test 2>&1 | tee LOG`: rt tells how long each crate took, tests/must_fail.sh and tests/wrong_definitions.sh too, and `real` is the whole).
+# (`time ./test 2>&1 | tee LOG`: tests/must_fail.sh and tests/wrong_definitions.sh tell how long each crate took, and `real` is the whole).
 set -euo pipefail
 if [ -n "${1:-}" ]; then log=$(realpath "$1"); else log=/dev/null; fi
 cd "$(dirname "$0")/.."
@@ -37,17 +37,13 @@ ratio() { # A B
     awk -v a="$1" -v b="$2" 'BEGIN { if (b) printf "%.1f", a / b; else printf "–" }'
 }
 
-seconds() { # CRATE
-    sed -nE "s/^rt: $1 proved \(([0-9]+) s\)\$/\1/p" "$log" | tail -n 1
-}
-
-crates=$(sed -nE 's/^([a-z_0-9]+):.*/\1/p' crates.txt)
+crates=$(sed -nE 's/^([a-z_0-9]+)( staticlib)?:.*/\1/p' crates.txt)
 
 by_crate() {
-    echo '| crate | code | contracts | specs | proofs | proof lines a code line | wrong programs | check, s |'
-    echo '|---|--:|--:|--:|--:|--:|--:|--:|'
-    local crate code contracts specs proofs wrong checked
-    local all_code=0 all_contracts=0 all_specs=0 all_proofs=0 all_wrong=0 all_checked=0
+    echo '| crate | code | contracts | specs | proofs | proof lines a code line | wrong programs |'
+    echo '|---|--:|--:|--:|--:|--:|--:|'
+    local crate code contracts specs proofs wrong
+    local all_code=0 all_contracts=0 all_specs=0 all_proofs=0 all_wrong=0
     for crate in $crates; do
         # shellcheck disable=SC2046
         contracts=$(contract_lines $(files "crates/$crate/src" '*.rt'))
@@ -57,13 +53,12 @@ by_crate() {
         specs=$(lines $(files "crates/$crate/specs" '*.antt'))
         # shellcheck disable=SC2046
         proofs=$(lines $(files "crates/$crate/proofs" '*.antt'))
-        wrong=$(edits "crates/$crate/must-fail/code")
-        checked=$(seconds "$crate")
-        echo "| $crate | $code | $contracts | $specs | $proofs | $(ratio "$proofs" "$code") | $wrong | ${checked:-–} |"
+        wrong=$(edits "crates/$crate/wrong/code")
+        echo "| $crate | $code | $contracts | $specs | $proofs | $(ratio "$proofs" "$code") | $wrong |"
         all_code=$((all_code + code)) all_contracts=$((all_contracts + contracts)) all_specs=$((all_specs + specs)) all_proofs=$((all_proofs + proofs))
-        all_wrong=$((all_wrong + wrong)) all_checked=$((all_checked + ${checked:-0}))
+        all_wrong=$((all_wrong + wrong))
     done
-    echo "| all | $all_code | $all_contracts | $all_specs | $all_proofs | $(ratio "$all_proofs" "$all_code") | $all_wrong | $(nonzero "$all_checked") |"
+    echo "| all | $all_code | $all_contracts | $all_specs | $all_proofs | $(ratio "$all_proofs" "$all_code") | $all_wrong |"
 }
 
 nonzero() { # NUMBER
@@ -83,6 +78,18 @@ logged() { # PATTERN: the number in a line of the log
     sed -nE "s/$1/\\1/p" "$log" | tail -n 1 | grep . || echo '–'
 }
 
+# Of the kit's libraries, by what rt ci has said of the program (nothing, where it took it as proved).
+assumed() {
+    awk '
+        /^== / { inside = $2 == "console" }
+        inside && match($0, /^axioms [a-z_]+: .*\([0-9]+ of the /) {
+            count = $0; sub(/ of the .*/, "", count); sub(/.*\(/, "", count)
+            library = $2; sub(/:.*/, "", library)
+            if ($3 != "none") said = said (said ? ", " : "") count " of " library
+        }
+        END { print said ? said : "–" }' "$log"
+}
+
 tried() {
     local random shipped consoles
     shipped=$(default_count tests/src/bin/shipped_comparison.rs 'asked\(0, ([0-9_]+)\)')
@@ -92,8 +99,8 @@ tried() {
     echo '|---|--:|'
     echo "| functions, each proved | $(grep -hcE '^ *(pub |pub\(crate\) )?(extern "C" )?fn ' crates/*/src/*.rt | awk '{ n += $1 } END { print n }') |"
     echo "| public functions of libraries (docs/PROMISES.md) | $(tests/promises.sh --list | wc -l) |"
-    echo "| axioms in our files | $(find crates -name '*.antt' -o -name '*.rt' | xargs cat | grep -cE '^ *axiom |Prim\.Axiom' || true) |"
-    echo "| C functions of the kit whose contracts the program \`console\` assumes | $(sed -nE 's/^axioms ([a-z]+: [^(]*[^( ]) \(.*/\1/p' "$log" | tail -n 1 | sed 's/^$/–/') |"
+    echo "| axioms in our files | $(find crates -path 'crates/*/out' -prune -o \( -name '*.antt' -o -name '*.rt' \) -print | xargs cat | grep -cE '^ *axiom |Prim\.Axiom' || true) |"
+    echo "| C functions of the kit whose contracts the program \`console\` assumes | $(assumed) |"
     echo "| wrong definitions, each refused | $(($(edits crates) - $(edits_of_code))) |"
     echo "| wrong programs, each refused | $(edits_of_code) |"
     echo "| controls, each failing or passing as it must: a crate's edit of white space; the gate's scripts | $(files crates control.edit | wc -l); $(nonzero "$(grep -cE '^control, .*, as it must$' "$log" || true)") |"
@@ -120,7 +127,6 @@ gate() {
     definitions=$(sed -nE 's/^[a-z_0-9]+: [0-9]+ wrong definitions, ([0-9]+) s$/\1/p' "$log" | awk '{ n += $1 } END { print n + 0 }')
     echo '| what | |'
     echo '|---|--:|'
-    echo "| crates, one after the other (the sum above) | $(nonzero "$(sed -nE 's/^rt: [a-z_0-9]+ proved \(([0-9]+) s\)$/\1/p' "$log" | awk '{ n += $1 } END { print n + 0 }')") s |"
     echo "| wrong programs, one crate after the other | $(nonzero "$wrong") s |"
     echo "| wrong definitions that rt ci does not try itself, one crate after the other | $(nonzero "$definitions") s |"
     echo "| the whole of ./test | ${whole:-–} |"
@@ -135,7 +141,7 @@ Printed by `docs/figures.sh LOG >docs/FIGURES.md`, where LOG is what `time ./tes
 ## By crate
 
 Lines that are neither blank nor a comment. *Code* is what the compiler reads of a crate; *contracts* what only the prover reads of it (`ensures`, `requires`, `ghost use`). *Specs* are
-definitions, *proofs* the rest; those of `grammar` are about the written meaning itself, `laws` has its laws beside its definitions, and both have no function. *Check* is the prover's time for the crate, with as many crates at a time as there are cores.
+definitions, *proofs* the rest; those of `grammar` are about the written meaning itself, `laws` has its laws beside its definitions, and both have no function.
 
 END
 by_crate

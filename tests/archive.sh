@@ -1,12 +1,12 @@
 #!/usr/bin/env bash
-# Prints the path of the shipped archive, which `rt staticlib exports` writes: for x86-64, whatever this machine is. Makes it if it has to, proved first.
+# Prints the path of the shipped archive, which `rt lib` writes in crates/exports: for x86-64. Makes it if it has to, proved first.
 set -eu
 cd "$(dirname "$0")/.."
-archive=$PWD/target/staticlib/libexports.a
+archive=$PWD/crates/exports/out/libexports.a
 # shellcheck source=tests/kit.sh
 . tests/kit.sh
-newest=$(find crates crates.txt "$kit/KIT-ID" -type f -newer "$archive" -print -quit 2>/dev/null || echo none)
-if [ ! -f "$archive" ] || [ -n "$newest" ]; then
-    tests/prove.sh archive staticlib exports
+if [ -n "$(newer_than "$archive")" ]; then
+    tests/prove.sh archive exports lib
+    touch "$archive"
 fi
 echo "$archive"

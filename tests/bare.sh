@@ -12,7 +12,7 @@ here=$(dirname "$0")
 layout=()
 case $target in thumb*-none-*) layout=(-T "$here/shipped/cortex_m.ld" -e 0) ;; esac
 "$here/c.sh" "$here/../docs/styrmflo.h" --target="$target" -fno-pic -fno-builtin -O2 -c "$here/shipped/bare.c" -o "$program.bare.o"
-"$own/toolchain/bin/ld.lld" --fatal-warnings "${layout[@]}" "$@" "$program.bare.o" -o "$program"
+"$kit/toolchain/bin/ld.lld" --fatal-warnings "${layout[@]}" "$@" "$program.bare.o" -o "$program"
 case $target in
     i686-*) [ "$(uname -m)" = x86_64 ] || echo qemu-i386 ;;
     aarch64-*) [ "$(uname -m)" = aarch64 ] || echo qemu-aarch64 ;;

@@ -6,5 +6,5 @@ header=$1
 shift
 # shellcheck source=tests/kit.sh
 . "$(dirname "$0")/kit.sh"
-exec "$own/toolchain/bin/clang" --target=x86_64-unknown-linux-gnu -std=c99 -pedantic -Wall -Wextra -Werror -fPIC -ffreestanding -nostdlibinc \
+exec "$kit/toolchain/bin/clang" --target=x86_64-unknown-linux-gnu -std=c99 -pedantic -Wall -Wextra -Werror -fPIC -ffreestanding -nostdlibinc \
     -isystem "$(cc -print-file-name=include)" -I "$(dirname "$header")" "$@"

@@ -220,24 +220,29 @@ unready() {
     says_one_line 'run with another rt' "the rt on the path is not the Rattle kit's"
 }
 
+# What rt says of a crate that is proved, with so many of its modules checked now.
+proved() { # CRATE CHECKED
+    printf '%s\n' "rt: chose --jobs 1 for $1" "fn $1::first: proved" 'library lowest: modules loaded=9 checked=0' "crate $1: modules loaded=1 checked=$2" 'logic=proved functions=1 sum=0'
+}
+
 # A copy of the commands with a stand-in for the kit: what its rt says and how it ends is in said and status, and what the console program does in program.
 stand_in() {
     local kit=$room/kit
     rm -rf "$room/copy" "$kit"
-    mkdir -p "$room/copy/crates" "$kit/bin" "$kit/docs" "$kit/toolchain/lib"
+    mkdir -p "$room/copy/crates/console" "$kit/bin" "$kit/toolchain/lib"
     cp -R --parents run check desk/*.sh tests/*.sh crates.txt "$sample.console" "$sample.answer" "$room/copy"
-    touch "$kit/docs/guide" "$kit/KIT-ID"
+    touch "$kit/guide" "$kit/KIT-ID"
     printf '%s\n' '#!/bin/sh' 'shift 2' 'exec "$@"' >"$kit/toolchain/lib/ld-linux-x86-64.so.2"
     cat >"$kit/bin/rt" <<END
 #!/bin/sh
-[ "\$1" != doc ] || { echo "$kit/docs/guide"; exit; }
+[ "\$1" != doc ] || { echo "$kit/guide"; exit; }
 cat "$room/said"
 [ "\$(cat "$room/status")" = 0 ] || exit "\$(cat "$room/status")"
-mkdir -p "$room/copy/target/bin"
-cp "$room/program" "$room/copy/target/bin/console"
+mkdir -p out
+cp "$room/program" out/console
 END
     printf '#!/bin/sh\ncat >"%s/taken"\ncat "%s.answer"\n' "$room" "$sample" >"$room/program"
-    printf 'rt: %s\n' 'laws proved (12 s)' 'grammar proved (unchanged since it was last proved)' 'console proved (3 s)' >"$room/said"
+    { proved laws 7; proved grammar 0; proved console 2; } >"$room/said"
     echo 0 >"$room/status"
     chmod +x "$kit/bin/rt" "$kit/toolchain/lib/ld-linux-x86-64.so.2" "$room/program"
 }
@@ -253,8 +258,8 @@ progress() {
     try 'the first time' 0 "$run"
     prints 'the first time' "$sample.answer"
     says 'the first time' 'usually takes about 7 minutes on two processors'
-    says 'the first time' 'proved: 1 of 18, laws (12 s)'
-    says 'the first time' 'proved: 3 of 18, console (3 s)'
+    says 'the first time' 'proved: 1 of 18, laws ('
+    says 'the first time' 'proved: 18 of 18, console ('
     ! grep -q 'grammar' "$room/err" || wrong 'the first time' 'a crate is told that was proved before'
     cmp -s "$room/taken" "$sample.console" || wrong 'the first time' 'the console program was given something else'
     try 'the second time' 0 "$run"
@@ -269,9 +274,9 @@ progress() {
 failing_proofs() { # RUN
     stand_in
     echo 1 >"$room/status"
-    echo 'rt: laws NOT PROVED (exit 1, 5 s)' >"$room/said"
+    printf '%s\n' 'fn laws::first: not proved' 'logic=not-proved' >"$room/said"
     try 'a crate that is not proved' 2 "$1"
-    says 'a crate that is not proved' 'laws NOT PROVED'
+    says 'a crate that is not proved' 'fn laws::first: not proved'
     [ ! -s "$room/out" ] || wrong 'a crate that is not proved' 'something is on standard output'
     echo 2 >"$room/status"
     seq -f 'rt: line %g' 30 >"$room/said"
@@ -281,7 +286,16 @@ failing_proofs() { # RUN
     stand_in
     : >"$room/said"
     try 'an rt that says nothing' 2 "$1"
-    says 'an rt that says nothing' 'rt check console says nothing of console'
+    says 'an rt that says nothing' 'rt run says nothing of console'
+    stand_in
+    proved laws 7 >"$room/said"
+    try 'an rt that says nothing of the program' 2 "$1"
+    says 'an rt that says nothing of the program' 'rt run says nothing of console'
+    # where rt was not at work for it, a program that is there is no newer than its sources
+    stand_in
+    echo 'rt: nothing has changed since the last proved build, by out/console.stamp, so nothing is checked now' >"$room/said"
+    try 'a program that was built before' 0 "$1"
+    prints 'a program that was built before' "$sample.answer"
 }
 
 # The console program has no status of its own: whatever else than an answer comes from it is told.

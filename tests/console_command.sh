@@ -4,9 +4,9 @@ set -eu
 cd "$(dirname "$0")/.."
 # shellcheck source=tests/kit.sh
 . tests/kit.sh
-newest=$(find crates crates.txt "$kit/KIT-ID" -type f -newer target/bin/console -print -quit 2>/dev/null || echo none)
-if [ ! -f target/bin/console ] || [ -n "$newest" ]; then
-    tests/prove.sh run check console
-    touch target/bin/console # rt leaves it as it is where only the files' times have changed
+program=$PWD/crates/console/out/console
+if [ -n "$(newer_than "$program")" ]; then
+    tests/prove.sh run console run
+    touch "$program" # rt leaves it as it is where only the files' times have changed
 fi
-exec tests/start.sh "$PWD/target/bin/console"
+exec tests/start.sh "$program"

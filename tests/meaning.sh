@@ -80,7 +80,7 @@ pointers() {
             else if ($2 ~ /^(test|where)$/ && name ~ /^(table|typing|runs|listing)$/) { vectors = name; group_due = $2 == "test" && !every }
             else if ($2 ~ /^(test|where)$/ && name == "console") within("console", "")
             else if (name ~ /^[A-Za-z][^ =]*$/) {
-                if (said in is_crate) within(programs ? "edit" : $2 == "no file" ? $2 : "function", said (programs ? "/must-fail/code" : ""))
+                if (said in is_crate) within(programs ? "edit" : $2 == "no file" ? $2 : "function", said (programs ? "/wrong/code" : ""))
                 if (kind != "") point(kind, place, name)
                 else if ($2 != "where") point("unread", "", name)
             }
@@ -113,10 +113,10 @@ pointers() {
 }
 
 # What stands in the files of definitions and laws, a line each: the file, without crates/ and .antt (and of a function's proof its folder alone), and the name of a definition, law,
-# constructor or field.
+# constructor, field or goal.
 standing() {
-    find crates -name '*.antt' -exec awk '
-        FNR == 1 { file = FILENAME; gsub(/^crates\/|(\/Proof)?\.antt$/, "", file); print file "\t" }
+    find crates -path 'crates/*/out' -prune -o -name '*.antt' -exec awk '
+        FNR == 1 { file = FILENAME; gsub(/^crates\/|\.antt$/, "", file); if (file ~ /^[a-z_0-9]+\/proofs\/.*\//) sub(/\/(Answers|Invariants|Proof)$/, "", file); print file "\t" }
         /^ *((pub|abbrev|unfoldable|data|record) )*[^ ]+( [({].*)? :( |$)/ {
             name = $0; gsub(/^ *((pub|abbrev|unfoldable|data|record) )*/, "", name); sub(/ .*/, "", name)
             print file "\t" name
@@ -152,9 +152,9 @@ function_wrong() { # KIND CRATE NAME
         *' '*) said="$3 is in more than one file of crates/$2/src" ;;
         *)
             if [ -n "${there[$folder ]:-}" ]; then
-                [ "$1" = function ] || said="crates/$folder/Proof.antt is there, and the page's head says that it isn't"
+                [ "$1" = function ] || said="crates/$folder is there, and the page's head says that it isn't"
             elif [ -z "${fileless[$2 $3]:-}" ]; then
-                said="crates/$folder/Proof.antt is not there, and the page's head doesn't say so"
+                said="crates/$folder is not there, and the page's head doesn't say so"
             fi
             ;;
     esac

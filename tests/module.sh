@@ -1,20 +1,21 @@
 #!/usr/bin/env bash
 # module.sh: prints the path of the proved module of exports, as the kit's compiler hands it to clang (target/module/module.bc). Makes it if it has to, proved first.
 # module.sh TARGET MODULE WORDS..: compiles MODULE (that one, or one as text) for TARGET, a processor with Linux (x86_64, aarch64) or as clang names it, with WORDS (-c or -S,
-# -o FILE, ..) beside what the compiler is told for the library there: on x86-64 the kit's own words, by which the shipped archive is made; elsewhere -O3, a section a function, and for Linux -fPIC.
+# -o FILE, ..) beside what the compiler is told for the library there: on x86-64 the kit's own words, by which the shipped archive is made; elsewhere -O3, a section a function,
+# for Linux -fPIC, and of the kit's own words those that are told to LLVM (-mllvm), by which it keeps off known faults.
 set -euo pipefail
 cd "$(dirname "$0")/.."
 # shellcheck source=tests/kit.sh
 . tests/kit.sh
-clang=$own/toolchain/bin/clang
+clang=$kit/toolchain/bin/clang
 folder=$PWD/target/module
 room=$(mktemp -d)
 trap 'rm -rf "$room"' EXIT
 
 # target/module: module.bc, and words, what clang was told with it, a word a line, but for the names of the files.
 make() {
-    local needs words
-    tests/prove.sh module check exports
+    local words
+    tests/prove.sh module exports check
     mkdir "$room/bin"
     # The kit's compiler hands a module to clang: this one keeps it, and the words.
     cat >"$room/bin/clang" <<WRAP
@@ -24,21 +25,19 @@ printf '%s\n' "\$@" >"$room/words"
 exec "$clang" "\$@"
 WRAP
     chmod +x "$room/bin/clang"
-    for tool in llvm-ar ld.lld; do ln -s "$own/toolchain/bin/$tool" "$room/bin/$tool"; done
-    ln -s "$(readlink -f "$own/toolchain/lib")" "$room/lib"
-    needs=$(sed -n 's/^exports:\([^#]*\).*/\1/p' crates.txt)
-    words=(--crate-name exports crates/exports/src/lib.rt --crate-type staticlib --extern "std=$own/rlib/std.rlib")
-    for d in $needs; do words+=(--extern "$d=target/rlib/$d.rlib"); done
-    "$own/bin/rattle" build "${words[@]}" -L dependency=target/rlib -L "dependency=$own/rlib" --antt-project "$kit/logic/antt-project.json" \
-        --logic-built "$own/logic-built" --toolchain "$room" -o "$room/out" >"$room/log" 2>&1 || { tail -n 20 "$room/log" >&2; exit 1; }
-    awk '$0 == "-o" { getline; next } $0 == "-c" || /\.bc$/ || /^--sysroot=/ { next } { print }' "$room/words" >"$folder/words"
+    for tool in llvm-ar ld.lld rattle-x64; do ln -s "$kit/toolchain/bin/$tool" "$room/bin/$tool"; done
+    ln -s "$kit/toolchain/lib" "$room/lib"
+    mapfile -t words < <(rattle_words "$PWD" exports)
+    # over what the check has kept
+    (cd crates/exports && "$kit/bin/rattle" build "${words[@]}" --incremental out/incremental --toolchain "$room" --backend llvm -o "$room/out") >"$room/log" 2>&1 ||
+        { tail -n 20 "$room/log" >&2; exit 1; }
+    awk '$0 == "-o" || $0 == "-x" { getline; next } $0 == "-c" || /\.bc$/ || /^--sysroot=/ { next } { print }' "$room/words" >"$folder/words"
     mv "$room/module.bc" "$folder/module.bc"
 }
 
 if [ $# = 0 ]; then
     mkdir -p "$folder"
-    newest=$(find crates crates.txt "$kit/KIT-ID" -type f -newer "$folder/module.bc" -print -quit 2>/dev/null || echo none)
-    if [ ! -f "$folder/module.bc" ] || [ -n "$newest" ]; then make; fi
+    if [ -n "$(newer_than "$folder/module.bc")" ]; then make; fi
     echo "$folder/module.bc"
     exit
 fi
@@ -56,4 +55,5 @@ fi
 sed -e '/^target datalayout/d' -e "s/^target triple.*/target triple = \"$target\"/" \
     -e 's/"target-cpu"="[^"]*"//g' -e 's/"target-features"="[^"]*"//g' -e 's/"tune-cpu"="[^"]*"//g' "$room/module.ll" >"$room/native.ll"
 case $target in *linux*) place=-fPIC ;; *) place=-fno-pic ;; esac
-"$clang" -w --target="$target" -O3 "$place" -ffunction-sections -fdata-sections "$@" -x ir "$room/native.ll"
+mapfile -t told < <(awk '$0 == "-mllvm" { print; getline; print }' "$folder/words")
+"$clang" -w --target="$target" -O3 "$place" -ffunction-sections -fdata-sections ${told[@]+"${told[@]}"} "$@" -x ir "$room/native.ll"

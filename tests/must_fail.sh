@@ -1,42 +1,47 @@
 #!/usr/bin/env bash
-# must_fail.sh [CRATE..]: tries the wrong programs, crates/CRATE/must-fail/code/*.edit. Each is an edit of the crate's code in the form of rt's must-fail edits, with a
+# must_fail.sh [CRATE..]: tries the wrong programs, crates/CRATE/wrong/code/*.edit. Each is an edit of the crate's code in the form of rt's must-fail edits, with a
 # line `refused: FUNCTION` or `refused: FUNCTION FACT`. It changes the body of that function and nothing else (or, with a line `constant: NAME`, a constant), and it is
-# refused where a fact of that function's own does not close: one that its proof has to show, by the prover's own words. Not enough are: that the function isn't proved
-# because one that it calls isn't; and that its proof has lost its shape, since it names what the edit has taken out of the function.
+# refused where a fact of that function's own does not close: one of its goals, which has no proof or whose answer is refused, by the prover's own words. Not enough are: that
+# the function isn't proved because one that it calls isn't; and that its proof has lost its shape, since it names what the edit has taken out of the function.
+#
+# Goals are named by the code that they are about, so that another value there can be another name: then the shape is lost, and with it nothing else. Such an edit says by a line
+# `renames: OLD NEW` (or by several) how the proof's names go on, as counts-k-ne1, counts-k-eq0. Where the shape is lost, and the prover misses a name with OLD in it, the proof of
+# that function is tried once more with NEW in the place of OLD, and a fact must be refused.
 #
 # A wrong program that is another order of calls or branches can't but change the shape. Its edit says so, `shape: changes`, and names a console input,
 # `told by: FILE`: the console program with the edit, compiled without a proof and run on that input, must print something else than the stored answer.
 #
-# rt itself tries the edits that stand in must-fail/ directly, each by a check of the whole crate from nothing. Two things make it seconds here. What rt has proved of
-# the crate as it stands is taken over, and only what the edits change is checked again. And edits of different functions are tried together: a proof knows of other
+# rt itself tries the edits that stand in must-fail/, each by a check of its own. Two things make it less here. As rt does, what `rt check` has kept of the crate as it stands
+# is taken over, and only what the edits change is checked again. And edits of different functions are tried together: a proof knows of other
 # functions only their contracts, which no edit touches, so that each is judged by its own facts. What is not refused together is tried again alone.
 #
 # Controls, without which the script fails: each crate has an edit with a line `control: FUNCTION` that changes nothing but white space, of a function that calls what
 # other edits break. It must not be refused among the others; and where another is tried alone, it must not be refused alone, and leaves the crate proved. Nowhere may a
-# function be refused that no edit changes. And the program as it stands, compiled without a proof, prints what is stored. Needs what `rt check` leaves in target/.
+# function be refused that no edit changes. And the program as it stands, compiled without a proof, prints what is stored. Needs what tests/kept.sh leaves in crates/*/out.
 set -euo pipefail
 here=$(cd "$(dirname "$0")" && pwd)
 top=$(dirname "$here")
+# shellcheck source=tests/kit.sh
+. "$here/kit.sh"
 
-# The crate as rt proved it, in a repository of its own. The files are links: an edit puts a new file in a link's place.
+# The crate as it stands, in a folder of its own; what an edit changes is put back by `unedited`.
 prepare() { # CRATE FOLDER
-    mkdir -p "$2/target/log"
-    cp -alR "$top/crates.txt" "$top/crates" "$2"
-    ln -s "$top/target/rlib" "$top/target/stamp" "$2/target"
+    local part
+    mkdir -p "$2/crates/$1"
+    for part in src specs proofs; do [ ! -d "$top/crates/$1/$part" ] || cp -R "$top/crates/$1/$part" "$2/crates/$1"; done
+    mapfile -t words < <(rattle_words "$top" "$1")
 }
 
 # The code without any edit.
 unedited() { # CRATE FOLDER
     rm -rf "$2/crates/$1/src"
-    cp -alR "$top/crates/$1/src" "$2/crates/$1"
+    cp -R "$top/crates/$1/src" "$2/crates/$1"
 }
 
-# The checked modules of the crate as it stands, where an incremental check looks for them; those that can't be taken over are made again.
+# What a check kept of the crate as it stands. It is a copy: a check writes there what it checks.
 as_checked() { # CRATE FOLDER
-    local modules=$2/target/inc/$1/$build
-    rm -rf "$modules"
-    mkdir -p "$modules"
-    cp "$top/target/rlib/$1.rlib/toolchain/checked/"*.oantt "$modules"
+    rm -rf "$2/kept"
+    cp -R "$top/crates/$1/out/incremental" "$2/kept"
 }
 
 # Puts the new text in the place of the old one, which stands just once in its file, and prints the function in whose body that is, or a dash.
@@ -51,7 +56,7 @@ replace() { # FILE OLD NEW
                     margin = indent
                     body = line[i] ~ /\{$/ ? ends[i] + 1 : 0
                 }
-                else if (name && !body && line[i] == margin "{") body = ends[i] + 1
+                else if (name && !body && (line[i] == margin "{" || index(line[i], margin ")") == 1 && line[i] ~ /\{$/)) body = ends[i] + 1
                 else if (name && body && line[i] == margin "}") {
                     if (body <= first && last <= ends[i - 1]) return name
                     name = ""
@@ -135,31 +140,66 @@ unsound() { # CRATE FOLDER EDIT
     fi
 }
 
-# The functions that the prover refuses for a fact of their own, a line each: the function and the fact, or a dash where the proof has lost its shape. Where a proof
-# stands in a file, an error in it tells the fact, one that the file states as needed; where rattle has made the proof itself, the line about the function tells it.
-refusals() { # CRATE LOG
-    awk -v crate="fn $1::" -v proofs="crates/$1/proofs/" '
-        function needed(file, name,    text, found) {
-            while ((getline text <file) > 0) if (index(text, name " : ") == 1 && text ~ /Need-/) found = 1
-            close(file)
+# The functions that the prover refuses for a fact of their own, a line each: the function and the fact, or a dash where the proof has lost its shape. Where a goal is
+# answered in a file, an error there tells it, at an answer that the file states as one of the function's goals; where rattle looks for the proof itself, the line about the
+# function tells it. The shape is lost where the file names a goal, a field or a variable that is not there, or where one of its invariants is refused.
+refusals() { # CRATE FOLDER
+    awk -v crate="fn $1::" -v folder="$2/crates/$1/" '
+        function is_goal(file, name,    text, found) {
+            while ((getline text <(folder file)) > 0) if (index(text, " " name " : goal.") || index(text, name " : goal.") == 1) found = 1
+            close(folder file)
             return found
         }
-        /Proof\.antt:[0-9]+:[0-9]+: error: `/ && !/was not admitted/ {
-            file = $0; sub(/:[0-9]+:[0-9]+: error: .*/, "", file)
-            name = $0; sub(/^[^`]*`/, "", name); sub(/`.*/, "", name)
-            at = index(file, proofs)
-            if (!at) next
-            of = substr(file, at + length(proofs)); sub(/\/Proof\.antt$/, "", of)
-            whole = of; sub(/^.*\//, "", whole); sub(/^\+/, "", whole); gsub(/_/, "-", whole)
-            gsub(/\//, "::", of)
-            if (/ has no `Need-/ || / has no field `/ || name == whole "-spec") print of, "-"
-            else if (needed(file, name)) print of, name
+        /^(\.\/)?proofs\/.*\/(Answers|Invariants|Proof)\.antt:[0-9]+:[0-9]+: error: / {
+            file = $0; sub(/^\.\//, "", file); sub(/:[0-9]+:[0-9]+: error: .*/, "", file)
+            of = file; sub(/^proofs\//, "", of); sub(/\/[^\/]*$/, "", of); gsub(/\//, "::", of)
+            said = $0; sub(/^[^:]*:[0-9]+:[0-9]+: error: /, "", said)
+            name = ""
+            if (match(said, /^`[^`]+`: /)) { name = substr(said, 2, RLENGTH - 4); said = substr(said, RLENGTH + 1) }
+            # what rests on another that is refused
+            if (said ~ /was not admitted|was rejected|which (was|were) not /) next
+            if (name == "" || file ~ /\/Invariants\.antt$/ || said ~ / has no (`|field )| is not in scope/) print of, "-"
+            else if (is_goal(file, name)) print of, name
         }
-        index($0, crate) == 1 && /: no proof: .*`search` does not close `/ {
+        index($0, crate) == 1 && /: no proof: expected [^;]* in [^;]*\/Invariants\.antt/ {
             of = substr($0, length(crate) + 1); sub(/: no proof: .*/, "", of)
-            facts = $0; sub(/^.*`search` does not close /, "", facts); sub(/;.*/, "", facts)
+            print of, "-"
+        }
+        index($0, crate) == 1 && /: no proof: .*`search` did not prove `/ {
+            of = substr($0, length(crate) + 1); sub(/: no proof: .*/, "", of)
+            facts = $0; sub(/^.*`search` did not prove /, "", facts); sub(/;.*/, "", facts)
             for (; match(facts, /`[^`]+`/); facts = substr(facts, RSTART + RLENGTH)) print of, substr(facts, RSTART + 1, RLENGTH - 2)
-        }' "$2" | sort -u
+        }' "$2/log" | sort -u
+}
+
+# The names that the proof of the function names and the prover doesn't find, in one line.
+lost_names() { # FOLDER FUNCTION
+    awk -v from="proofs/${2//:://}/" '
+        /\.antt:[0-9]+:[0-9]+: error: / && (index($0, from) == 1 || index($0, "./" from) == 1) {
+            if (match($0, / has no (field )?`[^`]+`/)) { name = substr($0, RSTART, RLENGTH); sub(/^[^`]*/, "", name) }
+            else if (match($0, /`[^`]+` is not in scope/)) { name = substr($0, RSTART, RLENGTH); sub(/ is.*/, "", name) }
+            else next
+            gsub(/`/, "", name)
+            if (!seen[name]++) names = names (names ? " " : "") name
+        }
+        END { print names }' "$1/log"
+}
+
+# Brings the names in the proof of the edit's function to what the edit makes of them. Each that is to be renamed must be among those that the prover has missed.
+rename() { # CRATE FOLDER EDIT
+    local old new function missed
+    function=$(function_of "$3")
+    missed=$(lost_names "$2" "$function")
+    while read -r old new; do
+        [[ $missed == *"$old"* ]] || return 1
+        sed -i -E "s/(^|[^A-Za-z0-9_])$old([^A-Za-z0-9_]|\$)/\1$new\2/g; s/(^|[^A-Za-z0-9_])$old([^A-Za-z0-9_]|\$)/\1$new\2/g" "$2/crates/$1/proofs/${function//:://}"/*.antt
+    done < <(said_of "$3" renames)
+}
+
+# The proofs without any renamed name.
+unrenamed() { # CRATE FOLDER
+    rm -rf "$2/crates/$1/proofs"
+    [ ! -d "$top/crates/$1/proofs" ] || cp -R "$top/crates/$1/proofs" "$2/crates/$1"
 }
 
 # Makes these edits in the code as it stands; the first that doesn't fit beside those before it is left in `unfit`.
@@ -175,8 +215,8 @@ check() { # CRATE FOLDER EDIT..
     local crate=$1 folder=$2 edit function functions=' '
     shift 2
     for edit in "$@"; do is_control "$edit" || functions+="$(function_of "$edit") "; done
-    (cd "$folder" && RT_CUT=0 rt dev "$crate" >log 2>&1) || true
-    refused=$(refusals "$crate" "$folder/log")
+    (cd "$folder/crates/$crate" && "$kit/bin/rattle" check "${words[@]}" --incremental "$folder/kept") >"$folder/log" 2>&1 || true
+    refused=$(refusals "$crate" "$folder")
     for function in $(cut -d ' ' -f 1 <<<"$refused"); do
         case $functions in *" $function "*) ;; *) fail "$crate: REFUSED, AND NO EDIT CHANGES IT: $function" ;; esac
     done
@@ -230,20 +270,26 @@ alone() { # CRATE FOLDER EDIT
     as_checked "$1" "$2"
     make "$1" "$2" "$3"
     check "$1" "$2" "$3"
+    if [ -n "$(said_of "$3" renames)" ]; then
+        if [ "$(facts_of "$3")" != - ] || ! rename "$1" "$2" "$3"; then fail "$1/$(basename "$3" .edit): its names are not those that the proof of $(function_of "$3") has lost"; unrenamed "$1" "$2"; return; fi
+        check "$1" "$2" "$3"
+        unrenamed "$1" "$2"
+    fi
     judge "$1" "$2" "$3" "$(facts_of "$3")"
 }
 
 # What is to be said of an edit of whose function these facts do not close.
 judge() { # CRATE FOLDER EDIT FACTS
-    local name function
+    local name function others
     name=$1/$(basename "$3" .edit)
     function=$(function_of "$3")
     if is_control "$3"; then
         judge_control "$name" "$2/log" "$4"
     elif [ -z "$4" ]; then
-        fail "$name: NOT REFUSED at $(named "$3")"
+        others=$(awk -v of="$function" '$1 == of { print $2 }' <<<"$refused" | paste -sd ' ')
+        fail "$name: NOT REFUSED at $(named "$3")${others:+, but at: $others}"
     elif [ "$4" = - ]; then
-        fail "$name: REFUSED FOR ITS SHAPE ALONE: the proof of $function names what is not there"
+        fail "$name: REFUSED FOR ITS SHAPE ALONE: the proof of $function names what is not there: $(lost_names "$2" "$function")"
     elif [ -n "$(said_of "$3" shape)" ]; then
         fail "$name: says that its shape changes, and is refused at $function, $4"
     else
@@ -266,8 +312,11 @@ told() { # CRATE FOLDER EDIT
     local name input printed
     name=$1/$(basename "$3" .edit)
     input=$(said_of "$3" 'told by')
-    make "$1" "$2" "$3"
-    printed=$("$here/unproved.sh" "$2" "$top/$input") || printed='it could not be run'
+    rm -rf "$2/tree"
+    mkdir "$2/tree"
+    (cd "$top" && cp -R --parents crates.txt crates/*/src "$2/tree")
+    apply "$3" "$2/tree/crates/$1" >/dev/null
+    printed=$("$here/unproved.sh" "$2/tree" "$top/$input") || printed='it could not be run'
     case $printed in
     'something else') echo "$name: refused for its shape, and told by $input" ;;
     *) fail "$name: NOT TOLD by $input: $printed" ;;
@@ -275,18 +324,19 @@ told() { # CRATE FOLDER EDIT
 }
 
 one_crate() { # CRATE
-    local folder edit wrong control began=$SECONDS pending=() taken=() open=() shaped=() refused=''
-    # beside what is proved: links reach no other file system
-    folder=$(mktemp -d "$top/target/wrong.XXXXXX")
+    local folder edit wrong control began=$SECONDS words=() pending=() taken=() open=() shaped=() refused=''
+    [ -d "$top/crates/$1/out/incremental" ] || { echo "$1: no check has kept anything of it: tests/kept.sh"; exit 1; }
+    # outside the checkout, where rt wants no second copy of a source
+    folder=$(mktemp -d)
     # shellcheck disable=SC2064
     trap "rm -rf '$folder'" EXIT
     prepare "$1" "$folder"
-    for edit in "$top/crates/$1/must-fail/code"/*.edit; do
+    for edit in "$top/crates/$1/wrong/code"/*.edit; do
         wrong=$(unsound "$1" "$folder" "$edit")
         if [ -n "$wrong" ]; then fail "$1/$(basename "$edit" .edit): $wrong"; continue; fi
         # a control goes first, so that it is tried with as many others as there can be; who else reads a constant isn't known, so that its edit is tried alone
         if is_control "$edit"; then pending=("$edit" ${pending[@]+"${pending[@]}"})
-        elif [ -n "$(said_of "$edit" constant)" ]; then open+=("$edit")
+        elif [ -n "$(said_of "$edit" 'constant|renames')" ]; then open+=("$edit")
         else pending+=("$edit"); fi
     done
     if [ ${#pending[@]} -lt 2 ] || ! is_control "${pending[0]}"; then
@@ -310,16 +360,10 @@ one_crate() { # CRATE
     exit "$failed"
 }
 
-if [ "${1:-}" = --one ]; then
-    build=$2
-    one_crate "$3"
-fi
+if [ "${1:-}" = --one ]; then one_crate "$2"; fi
 # those with the most edits first, so that no processor is left with a long one at the end
-crates=${*:-$(cd "$top/crates" && find . -path '*/must-fail/code/*.edit' | cut -d / -f 2 | sort | uniq -c | sort -rn | awk '{ print $2 }')}
+crates=${*:-$(cd "$top/crates" && find . -path '*/wrong/code/*.edit' | cut -d / -f 2 | sort | uniq -c | sort -rn | awk '{ print $2 }')}
 [ -n "$crates" ] || { echo 'must_fail.sh: there is no wrong program'; exit 1; }
-# what an incremental check calls the folder of checked modules: the smallest crate tells
-(cd "$top" && rt dev laws >target/log/laws.dev 2>&1)
-build=$(ls "$top/target/inc/laws")
 # shellcheck disable=SC2086
-printf '%s\n' $crates | xargs -P "$(nproc)" -n 1 "$0" --one "$build"
+printf '%s\n' $crates | xargs -P "$(nproc)" -n 1 "$0" --one
 [ "$("$here/unproved.sh" "$top" "$top/examples/case-a/case-a.console")" = 'as stored' ] || { echo 'must_fail.sh: without a proof the console program prints something else'; exit 1; }

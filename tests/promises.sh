@@ -65,7 +65,7 @@ without_promise() { # DEFINITIONS
 # The wrong programs and definitions, as the page names them; controls are neither.
 edits() {
     local edit name
-    for edit in crates/*/must-fail/*.edit crates/*/must-fail/specs/*.edit crates/*/must-fail/code/*.edit; do
+    for edit in crates/*/must-fail/*.edit crates/*/wrong/specs/*.edit crates/*/wrong/code/*.edit; do
         name=${edit#crates/}
         grep -q '^control: ' "$edit" || echo "${name%%/*}/${edit##*/}"
     done | sort

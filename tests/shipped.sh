@@ -9,7 +9,7 @@ folder=${2:-$PWD/target/shipped}
 . tests/kit.sh
 mkdir -p "$folder"
 tests/c.sh docs/styrmflo.h -O2 -c tests/shipped/caller.c -o "$folder/caller.o"
-"$own/bin/rattle-link" --target x86_64-unknown-linux-gnu --toolchain "$own/toolchain" -o "$folder/caller" "$folder/caller.o" "$archive" >"$folder/log" 2>&1 || {
+"$kit/bin/rattle-link" --target x86_64-unknown-linux-gnu --toolchain "$kit/toolchain" -o "$folder/caller" "$folder/caller.o" "$archive" >"$folder/log" 2>&1 || {
     cat "$folder/log" >&2
     exit 1
 }

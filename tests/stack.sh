@@ -30,7 +30,7 @@ taken() { # PATH
 
 # The library has just this object.
 same() { # LIBRARY OBJECT
-    "$own/toolchain/bin/llvm-ar" p "$1" | cmp -s - "$2" || { echo "$1: not what is looked at here"; exit 1; }
+    "$kit/toolchain/bin/llvm-ar" p "$1" | cmp -s - "$2" || { echo "$1: not what is looked at here"; exit 1; }
 }
 
 here=$(uname -m)

@@ -20,7 +20,7 @@ for name in "${targets[@]}"; do
     target=$(basename "$folder")
     grep -q "^not proved: that module's compilation for $target " "$room/said" || { echo "targets, $target: ./library doesn't say what is not proved"; exit 1; }
     if [ "$target" = x86_64-unknown-linux-gnu ]; then
-        cmp <("$own/toolchain/bin/llvm-ar" p "$archive") <("$own/toolchain/bin/llvm-ar" p "$(tests/archive.sh)") || { echo "targets, $target: not the shipped object"; exit 1; }
+        cmp <("$kit/toolchain/bin/llvm-ar" p "$archive") <("$kit/toolchain/bin/llvm-ar" p "$(tests/archive.sh)") || { echo "targets, $target: not the shipped object"; exit 1; }
         echo "targets, $target: the shipped archive's object, which is tried as that"
         continue
     fi

@@ -1,22 +1,24 @@
 #!/usr/bin/env bash
-# wrong_definitions.sh [CRATE..]: tries the wrong definitions of the crates that say sentences of document 01, crates/CRATE/must-fail/specs/*.edit. Each is
+# wrong_definitions.sh [CRATE..]: tries the wrong definitions of the crates that say sentences of document 01, crates/CRATE/wrong/specs/*.edit. Each is
 # an edit of the crate's specs in the form of rt's must-fail edits, with a line `refused: FILE LAW`: a law of the meaning, or a case that the prover computes, in that
 # file. With the edit the prover must refuse this law, by its own words. Not enough are: that the law isn't proved because another that it names isn't; and that the wrong
 # definition is none, since the prover doesn't take it.
 #
 # That the code doesn't meet its contract any more says nothing here: definition and code could slip together. So the crate is tried bare: without its functions, with the
 # types that it declares, its specs, and the laws that stand in proofs/ itself (what is proved of a function stands in a folder of its own); with an edit, only the law's
-# file and those that it rests on. It is some seconds an edit, too: rt, which tries the edits that stand in must-fail/ directly, would check the whole crate again for
+# file and those that it rests on. It is some seconds an edit, too: rt, which tries the edits that stand in must-fail/, would check all that rests on the definition again for
 # each.
 #
 # Controls, without which the script fails: the bare crate as it stands is proved, before the first edit and after the last.
 #
 # And no definition is missed: each of these crates but grammar that docs/MEANING.md names for a sentence, or whose comment quotes one, is changed by an edit. Its old text stands in
-# the definition (its signature and clauses), or in one that the definition is made of; then a line `for: NAME..` names the definition. Needs what `rt check` leaves in
-# target/.
+# the definition (its signature and clauses), or in one that the definition is made of; then a line `for: NAME..` names the definition. Needs what
+# tests/kept.sh leaves in crates/*/out.
 set -euo pipefail
 here=$(cd "$(dirname "$0")" && pwd)
 top=$(dirname "$here")
+# shellcheck source=tests/kit.sh
+. "$here/kit.sh"
 page=docs/MEANING.md
 # those that this script looks at, the longest first; grammar has wrong definitions of rt's own beside these
 believed='console_text listing exports grammar text laws values'
@@ -32,19 +34,24 @@ prepare() { # CRATE FOLDER
     with_laws "$1" "$2"
 }
 
-# What the prover is to read of other crates: those that the files in the folder name.
-with_crates() { # CRATE FOLDER
-    local other
-    externs=()
-    for other in $(grep -rhoE 'Rattle·[a-z_]+\.|^use [a-z_]+::' "$2/$1" | sed -E 's/Rattle·|use |\.|://g' | sort -u); do
-        case $other in "$1" | crate) ;; *) externs+=(--extern "$other=$top/target/rlib/$other.rlib") ;; esac
-    done
-}
-
 # What a source file declares: modules, types, and the names of other types.
 declared() {
     awk '
-        /^ *(pub )?mod [a-z_0-9]+;$/ || /^ *use [a-z_0-9:]+::[A-Z][A-Za-z]*;$/ { print }
+        # a use of several names stands in braces, which may go over several lines
+        function types_of(text,    path, names, count, each, i, types) {
+            gsub(/ +/, " ", text)
+            path = text; sub(/\{.*/, "", path); sub(/[A-Za-z_0-9]+;$/, "", path)
+            names = substr(text, length(path) + 1); gsub(/[{};]/, "", names)
+            count = split(names, each, /, */)
+            for (i = 1; i <= count; i++) {
+                gsub(/ /, "", each[i])
+                if (each[i] ~ /^[A-Z]/ && each[i] !~ /^[A-Z][A-Z_0-9]+$/) types = types (types ? ", " : "") each[i]
+            }
+            if (types) print path "{" types "};"
+        }
+        /^ *(pub )?mod [a-z_0-9]+;$/ { print }
+        /^ *use / { using = 1; text = "" }
+        using { text = text $0; if (/;$/) { using = 0; types_of(text) } next }
         /^(pub |pub\(crate\) )?(enum|struct) / { inside = 1 }
         inside { print }
         /^\}/ { inside = 0 }'
@@ -77,7 +84,7 @@ with_laws() { # CRATE FOLDER [FILE]
         [ ! -f "$to/$module.antt" ] || continue
         cp "$from/$module.antt" "$to" || return 1
         echo "pub mod $module" >>"$to/Lib.antt"
-        todo="$todo $(sed -nE "s/^use Rattle·$1·proofs\.proofs\.([A-Za-z]+).*/\1/p" "$from/$module.antt" | tr '\n' ' ')"
+        todo="$todo $(sed -nE "s/^(pub )?use Rattle\.$1\.proofs\.([A-Za-z]+).*/\2/p" "$from/$module.antt" | tr '\n' ' ')"
     done
 }
 
@@ -133,20 +140,20 @@ fail() { # MESSAGE
 
 # Whether the crate is proved as it stands in the folder; the log is left there.
 check() { # CRATE FOLDER
-    with_crates "$1" "$2"
-    (cd "$2" && rt check "./$1" ${externs[@]+"${externs[@]}"} -L "dependency=$top/target/rlib" --incremental "$2/checked" >log 2>&1) || true
+    (cd "$2/$1" && "$kit/bin/rattle" check "${words[@]}" --incremental "$2/checked") >"$2/log" 2>&1 || true
     grep -q '^logic=proved ' "$2/log"
 }
 
-# The laws and definitions that the prover refuses for their own sake, a line each: file and name. A file that it can't read has a dash for the name.
-refusals() { # CRATE LOG
-    awk -v crate="/$1/" '
-        /\.antt:[0-9]+:[0-9]+: error: / && !/was not admitted/ {
-            file = $0; sub(/:[0-9]+:[0-9]+: error: .*/, "", file)
-            name = $0; sub(/^.*:[0-9]+:[0-9]+: error: /, "", name)
-            if (!match(file, crate "(specs|proofs)/")) next
-            print substr(file, RSTART + length(crate)), match(name, /^`[^`]+`:/) ? substr(name, 2, RLENGTH - 3) : "-"
-        }' "$2" | sort -u
+# The laws and definitions that the prover refuses for their own sake, a line each: file and name. A file that it can't read has a dash for the name. What rests on others that
+# are refused is told in lines of its own.
+refusals() { # LOG
+    awk '
+        /^(\.\/)?(specs|proofs)\/[^ ]*\.antt:[0-9]+:[0-9]+: error: / {
+            file = $0; sub(/^\.\//, "", file); sub(/:[0-9]+:[0-9]+: error: .*/, "", file)
+            name = $0; sub(/^[^:]*:[0-9]+:[0-9]+: error: /, "", name)
+            if (name ~ /^[0-9]+ declarations? that depends? on / || name ~ /was not admitted/) next
+            print file, match(name, /^`[^`]+`:/) ? substr(name, 2, RLENGTH - 3) : "-"
+        }' "$1" | sort -u
 }
 
 # Tries an edit, whose specs are as they stand; the definitions that it changes, or says that it is for, are added to the list.
@@ -167,7 +174,7 @@ try() { # CRATE FOLDER EDIT
         fail "$name: NOT REFUSED at $law"
         return
     fi
-    refused=$(refusals "$1" "$2/log")
+    refused=$(refusals "$2/log")
     for definition in $changed; do
         if grep -qE "^specs/.* ($definition|-)\$" <<<"$refused"; then fail "$name: IT IS NO DEFINITION: $definition is refused itself"; fi
     done
@@ -203,8 +210,10 @@ quoting() { # CRATE
 }
 
 one_crate() { # CRATE
-    local folder edit definition externs=() count=0 began=$SECONDS
-    folder=$(mktemp -d "$top/target/wrong_definitions.XXXXXX")
+    local folder edit definition words=() count=0 began=$SECONDS
+    # outside the checkout, where rt wants no second copy of a source
+    folder=$(mktemp -d)
+    mapfile -t words < <(rattle_words "$top" "$1")
     mkdir "$folder/checked"
     # shellcheck disable=SC2064
     trap "rm -rf '$folder'" EXIT
@@ -216,7 +225,7 @@ one_crate() { # CRATE
         exit 1
     fi
     mv "$folder/checked" "$folder/unedited"
-    for edit in "$top/crates/$1/must-fail/specs"/*.edit; do
+    for edit in "$top/crates/$1/wrong/specs"/*.edit; do
         [ -f "$edit" ] || { echo "$1: there is no wrong definition"; exit 1; }
         unedited "$1" "$folder"
         as_checked "$folder"
@@ -239,7 +248,7 @@ one_crate() { # CRATE
 
 [ "${1:-}" != --one ] || one_crate "$2"
 crates=${*:-$believed}
-for crate in $(cd "$top/crates" && find . -path '*/must-fail/specs/*.edit' | cut -d / -f 2 | sort -u); do
+for crate in $(cd "$top/crates" && find . -path '*/wrong/specs/*.edit' | cut -d / -f 2 | sort -u); do
     case " $believed " in *" $crate "*) ;; *) echo "wrong_definitions.sh: it does not look at $crate, which has wrong definitions"; exit 1 ;; esac
 done
 # shellcheck disable=SC2086

@@ -1,11 +1,11 @@
 # shellcheck shell=bash
 # What is handed over to be run was proved as it stands: where a proof is broken there is nothing, though something stands there from before.
 copy crates crates.txt library docs/styrmflo.h
-mkdir -p target/bin target/staticlib target/module
-touch -d 2000-01-01 target/bin/console target/staticlib/libexports.a target/module/module.bc
+mkdir -p crates/console/out crates/exports/out target/module
+touch -d 2000-01-01 crates/console/out/console crates/exports/out/libexports.a target/module/module.bc
 echo broken >>crates/laws/specs/Range.antt
 for script in archive library module console_command; do
-    fails "$script.sh, of a crate that is not proved" 'laws is not proved' "tests/$script.sh"
+    fails "$script.sh, of a crate that is not proved" 'specs/Range.antt:' "tests/$script.sh"
 done
 
 # And where rt says nothing of the crate: such an rt only knows its guide.

@@ -14,26 +14,26 @@ renamed() { # NAME TEXT SED-COMMAND
 
 fresh
 passes 'meaning as it is' tests/meaning.sh
-renamed 'a definition that is not there' 'sizesOk is not in crates/grammar/specs/Form' 's/`sizeOk`/`sizesOk`/'
-renamed 'a definition in another file' 'sizeOk is not in crates/grammar/specs/Types' 's/Form: `sizeOk`/Types: `sizeOk`/'
-renamed 'a definition of another crate' 'readRest is not in crates/text/specs/Found' 's/crate listing, Reading: `readRest`/crate text, Found: `readRest`/'
+renamed 'a definition that is not there' 'sizesOk is not in crates/grammar/specs/Form' 's/`size_ok`/`sizesOk`/'
+renamed 'a definition in another file' 'size_ok is not in crates/grammar/specs/Types' 's/Form: `size_ok`/Types: `size_ok`/'
+renamed 'a definition of another crate' 'read_rest is not in crates/text/specs/Found' 's/crate listing, Reading: `read_rest`/crate text, Found: `read_rest`/'
 renamed 'a definition in the file of its column' 'rounded is not in crates/grammar/specs/Run' 's/\| `rounds` \|/| `rounded` |/'
-renamed 'a file of definitions that is not there' 'crates/grammar/specs/Forms.antt is not there' 's/Form: `startCheck`/Forms: `startCheck`/'
-renamed 'a law that is not there' 'ran-to is not in crates/machine/proofs/Entry' 's/`ran-is`/`ran-to`/'
-renamed 'a fact of a proof that is not there' 'records-held is not in crates/form/proofs/fields/first_bad' 's/`records-holds`/`records-held`/'
+renamed 'a file of definitions that is not there' 'crates/grammar/specs/Forms.antt is not there' 's/Form: `start_check`/Forms: `start_check`/'
+renamed 'a law that is not there' 'ran-to is not in crates/machine/proofs/Entry' 's/`ran_is`/`ran-to`/'
+renamed 'a fact of a proof that is not there' 'records-held is not in crates/form/proofs/fields/first_bad' 's/`records-init`/`records-held`/'
 renamed 'a function that is not there' 'steps is not in crates/machine/src' 's/machine `step`/machine `steps`/'
 renamed 'a function of another crate' 'limits is not in crates/form/src' 's/runs `limits`/form `limits`/'
-renamed 'a function without a file that the head leaves out' 'crates/listing/proofs/read/Proof.antt is not there' 's/; listing `read`; console_text/; console_text/'
-renamed 'a function with a file that the head has among those without' 'crates/table/proofs/sizes/size_ok/Proof.antt is there' 's/(No file.*: table )/\1`size_ok`, /'
+renamed 'a function without a file that the head leaves out' 'crates/listing/proofs/read is not there' 's/; listing `read`; console_text/; console_text/'
+renamed 'a function with a file that the head has among those without' 'crates/table/proofs/sizes/size_ok is there' 's/(No file.*: table )/\1`size_ok`, /'
 renamed 'a wrong definition that is not there' 'crates/grammar/must-fail/not_restores.edit is not there' 's/`not_restores_slots`/`not_restores`/'
-renamed 'a wrong program that is not there' 'crates/runs/must-fail/code/does_more.edit is not there' 's/`does_nothing`/`does_more`/'
+renamed 'a wrong program that is not there' 'crates/runs/wrong/code/does_more.edit is not there' 's/`does_nothing`/`does_more`/'
 renamed 'a group that is not there' 'table has no group and no case "2 FIELDS"' 's/"2 FIELD"/"2 FIELDS"/'
 renamed 'a sentence without a group' 'typing has no group "Constraints: Bool"' 's/^\| Constraint: Bool/| Constraints: Bool/'
 renamed 'a console input that is not there' 'tests/console/line-99-*.console is not there' 's/`line-11-\*`/`line-99-*`/'
 renamed 'a file that is not there' 'examples/destinations is not there' 's|`examples/destination`|`examples/destinations`|'
 renamed 'a test that is not there' 'the_most_nodes is not in tests/tests/bench_cases.rs' 's/`the_most_rules`/`the_most_nodes`/'
-renamed 'a name in no form' 'sizeOk stands in none of the forms' 's/Form: `sizeOk`/`sizeOk`/'
-renamed 'a file to believe with other lines' 'crates/grammar/specs/Run.antt: 188 lines, not 187' '/Run.antt` \|/s/188/187/'
+renamed 'a name in no form' 'size_ok stands in none of the forms' 's/Form: `size_ok`/`size_ok`/'
+renamed 'a file to believe with other lines' 'crates/grammar/specs/Run.antt: 184 lines, not 183' '/Run.antt` \|/s/184/183/'
 renamed 'a file to believe that is not there' 'crates/grammar/specs/Runs.antt' 's,(crates/grammar/specs/Run)[.]antt`,\1s.antt`,'
 renamed 'no table' 'nothing of this kind was found' '/^\|/d'
 renamed 'empty' 'nothing of this kind was found' d
@@ -41,7 +41,7 @@ renamed 'empty' 'nothing of this kind was found' d
 # What it names has moved.
 fresh
 mv crates/form/proofs/fields/first_bad crates/form/proofs/first_bad
-fails 'meaning, a proof in another folder' 'crates/form/proofs/fields/first_bad/Proof.antt is not there' tests/meaning.sh
+fails 'meaning, a proof in another folder' 'crates/form/proofs/fields/first_bad is not there' tests/meaning.sh
 fresh
 change tests/vectors/runs.cases 's/^both M: /both MM: /'
 fails 'meaning, a bench case that is not there' 'runs has no case M' tests/meaning.sh

@@ -1,10 +1,9 @@
 # shellcheck shell=bash
 # One crate, the smallest that has both a proof in a file and proofs that rattle makes.
-edits=crates/stages/must-fail/code
+edits=crates/stages/wrong/code
 copy crates crates.txt examples/case-a
-mkdir -p target/log
-cp -al "$top/target/rlib" "$top/target/stamp" target
-find crates -path '*/must-fail/code/*.edit' ! -path "$edits/control.edit" ! -path "$edits/visits_forgotten.edit" -delete
+for crate in crates/*; do ln -s "$top/$crate/out" "$crate/out"; done
+find crates -path '*/wrong/code/*.edit' ! -path "$edits/control.edit" ! -path "$edits/visits_forgotten.edit" -delete
 
 edit() { # NAME LINES..
     local name=$1
@@ -21,6 +20,7 @@ edit another_shape 'refused: ended_at' 'file: src/lib.rt' 'old:         Ending::
     'new:         Ending::Deep => if k == 0 { Stage::Deep(k) } else { Stage::Stuck(k) },'
 edit not_told 'shape: changes' 'told by: examples/case-a/case-a.console' 'refused: ended_at' 'file: src/lib.rt' \
     'old:         Ending::Deep => Stage::Deep(k),' 'new:         Ending::Deep => if k == 0 { Stage::Deep(k) } else { Stage::Stuck(k) },'
+edit not_lost 'renames: at to' 'refused: move_to' 'file: src/lib.rt' 'old:         visits: run.visits,' 'new:         visits: 8,'
 tests/must_fail.sh >said 2>&1 && ended=0 || ended=1
 
 says() { # LINE: the script has said so
@@ -34,10 +34,13 @@ says 'no_control: a control, and it changes more than white space'
 says 'nameless: it does not name one function'
 says 'not_there: an old text does not stand in its file just once'
 says 'another_shape: REFUSED FOR ITS SHAPE ALONE'
-says 'not_told: NOT TOLD by examples/case-a/case-a.console'
+says 'not_lost: its names are not those that the proof of move_to has lost'
+says 'not_told: NOT TOLD by examples/case-a/case-a.console: as stored'
 says 'visits_forgotten: refused at move_to, returns'
 says 'control: not refused, as a control must be'
 rm "$edits"/[!v]*.edit
 fails 'wrong programs without a control' 'stages: there is no control' tests/must_fail.sh stages
 rm "$edits"/*.edit
 fails 'no wrong program' 'there is no wrong program' tests/must_fail.sh
+copy crates crates.txt
+fails 'wrong programs of a crate that no check has kept' 'stages: no check has kept anything of it' tests/must_fail.sh stages

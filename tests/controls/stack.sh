@@ -226,7 +226,7 @@ END
 . tests/kit.sh
 deeper() { # TIMES
     tests/c.sh docs/styrmflo.h -O0 "-DTIMES=$1" -c "$room/deeper.c" -o "$room/deeper.o"
-    "$own/bin/rattle-link" --target x86_64-unknown-linux-gnu --toolchain "$own/toolchain" -o "$room/deeper" "$room/deeper.o" 2>"$room/log"
+    "$kit/bin/rattle-link" --target x86_64-unknown-linux-gnu --toolchain "$kit/toolchain" -o "$room/deeper" "$room/deeper.o" 2>"$room/log"
     READER_CONSOLE=$(tests/start.sh "$room/deeper")$'\n'$console
 }
 if [ "$(uname -m)" = x86_64 ]; then
