@@ -25,12 +25,12 @@ files() { # FOLDER PATTERN
 }
 
 # A control is no wrong program.
-edits() { # FOLDER
-    files "$1" '*.edit' | grep -vc '/control\.edit$' || true
+edits() { # FOLDER: those that change code
+    files "$1" '*.edit' | xargs -r grep -lE '^file: src/' | grep -c . || true
 }
 
 edits_of_code() {
-    files crates '*.edit' | grep -v '/control\.edit$' | grep -c /code/ || true
+    files crates '*.edit' | grep /must-fail/ | xargs -r grep -lE '^file: src/' | grep -c . || true
 }
 
 ratio() { # A B
@@ -53,7 +53,7 @@ by_crate() {
         specs=$(lines $(files "crates/$crate/specs" '*.antt'))
         # shellcheck disable=SC2046
         proofs=$(lines $(files "crates/$crate/proofs" '*.antt'))
-        wrong=$(edits "crates/$crate/wrong/code")
+        wrong=$(edits "crates/$crate/must-fail")
         echo "| $crate | $code | $contracts | $specs | $proofs | $(ratio "$proofs" "$code") | $wrong |"
         all_code=$((all_code + code)) all_contracts=$((all_contracts + contracts)) all_specs=$((all_specs + specs)) all_proofs=$((all_proofs + proofs))
         all_wrong=$((all_wrong + wrong))

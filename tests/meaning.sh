@@ -80,7 +80,7 @@ pointers() {
             else if ($2 ~ /^(test|where)$/ && name ~ /^(table|typing|runs|listing)$/) { vectors = name; group_due = $2 == "test" && !every }
             else if ($2 ~ /^(test|where)$/ && name == "console") within("console", "")
             else if (name ~ /^[A-Za-z][^ =]*$/) {
-                if (said in is_crate) within(programs ? "edit" : $2 == "no file" ? $2 : "function", said (programs ? "/wrong/code" : ""))
+                if (said in is_crate) within(programs ? "edit" : $2 == "no file" ? $2 : "function", said (programs ? "/must-fail" : ""))
                 if (kind != "") point(kind, place, name)
                 else if ($2 != "where") point("unread", "", name)
             }

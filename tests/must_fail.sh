@@ -1,6 +1,6 @@
 #!/usr/bin/env bash
-# must_fail.sh [CRATE..]: tries the wrong programs, crates/CRATE/wrong/code/*.edit. Each is an edit of the crate's code in the form of rt's must-fail edits, with a
-# line `refused: FUNCTION` or `refused: FUNCTION FACT`. It changes the body of that function and nothing else (or, with a line `constant: NAME`, a constant), and it is
+# must_fail.sh [CRATE..]: tries the wrong programs: the edits of crates/CRATE/must-fail that change the crate's code, in the form of rt's must-fail edits, each with a
+# line `refused: FUNCTION` or `refused: FUNCTION FACT`. rt ci refuses each too, wherever that may be. It changes the body of that function and nothing else (or, with a line `constant: NAME`, a constant), and it is
 # refused where a fact of that function's own does not close: one of its goals, which has no proof or whose answer is refused, by the prover's own words. Not enough are: that
 # the function isn't proved because one that it calls isn't; and that its proof has lost its shape, since it names what the edit has taken out of the function.
 #
@@ -11,11 +11,11 @@
 # A wrong program that is another order of calls or branches can't but change the shape. Its edit says so, `shape: changes`, and names a console input,
 # `told by: FILE`: the console program with the edit, compiled without a proof and run on that input, must print something else than the stored answer.
 #
-# rt itself tries the edits that stand in must-fail/, each by a check of its own. Two things make it less here. As rt does, what `rt check` has kept of the crate as it stands
+# rt ci tries each by a check of its own. Two things make it less here. As rt does, what `rt check` has kept of the crate as it stands
 # is taken over, and only what the edits change is checked again. And edits of different functions are tried together: a proof knows of other
 # functions only their contracts, which no edit touches, so that each is judged by its own facts. What is not refused together is tried again alone.
 #
-# Controls, without which the script fails: each crate has an edit with a line `control: FUNCTION` that changes nothing but white space, of a function that calls what
+# Controls, without which the script fails: each crate has, in crates/CRATE/must-pass, an edit with a line `control: FUNCTION` that changes nothing but white space, of a function that calls what
 # other edits break. It must not be refused among the others; and where another is tried alone, it must not be refused alone, and leaves the crate proved. Nowhere may a
 # function be refused that no edit changes. And the program as it stands, compiled without a proof, prints what is stored. Needs what tests/kept.sh leaves in crates/*/out.
 set -euo pipefail
@@ -23,6 +23,11 @@ here=$(cd "$(dirname "$0")" && pwd)
 top=$(dirname "$here")
 # shellcheck source=tests/kit.sh
 . "$here/kit.sh"
+
+# The edits of the crate's code: its wrong programs, and its controls.
+programs() { # CRATE
+    grep -slE '^file: src/' "$top/crates/$1/must-fail"/*.edit "$top/crates/$1/must-pass"/*.edit || true
+}
 
 # The crate as it stands, in a folder of its own; what an edit changes is put back by `unedited`.
 prepare() { # CRATE FOLDER
@@ -331,7 +336,7 @@ one_crate() { # CRATE
     # shellcheck disable=SC2064
     trap "rm -rf '$folder'" EXIT
     prepare "$1" "$folder"
-    for edit in "$top/crates/$1/wrong/code"/*.edit; do
+    for edit in $(programs "$1"); do
         wrong=$(unsound "$1" "$folder" "$edit")
         if [ -n "$wrong" ]; then fail "$1/$(basename "$edit" .edit): $wrong"; continue; fi
         # a control goes first, so that it is tried with as many others as there can be; who else reads a constant isn't known, so that its edit is tried alone
@@ -362,7 +367,7 @@ one_crate() { # CRATE
 
 if [ "${1:-}" = --one ]; then one_crate "$2"; fi
 # those with the most edits first, so that no processor is left with a long one at the end
-crates=${*:-$(cd "$top/crates" && find . -path '*/wrong/code/*.edit' | cut -d / -f 2 | sort | uniq -c | sort -rn | awk '{ print $2 }')}
+crates=${*:-$(cd "$top/crates" && for crate in *; do programs "$crate" | sed "s/.*/$crate/"; done | sort | uniq -c | sort -rn | awk '{ print $2 }')}
 [ -n "$crates" ] || { echo 'must_fail.sh: there is no wrong program'; exit 1; }
 # shellcheck disable=SC2086
 printf '%s\n' $crates | xargs -P "$(nproc)" -n 1 "$0" --one

@@ -62,12 +62,12 @@ without_promise() { # DEFINITIONS
     done
 }
 
-# The wrong programs and definitions, as the page names them; controls are neither.
+# The wrong programs and definitions, as the page names them.
 edits() {
     local edit name
-    for edit in crates/*/must-fail/*.edit crates/*/wrong/specs/*.edit crates/*/wrong/code/*.edit; do
+    for edit in crates/*/must-fail/*.edit; do
         name=${edit#crates/}
-        grep -q '^control: ' "$edit" || echo "${name%%/*}/${edit##*/}"
+        echo "${name%%/*}/${edit##*/}"
     done | sort
 }
 

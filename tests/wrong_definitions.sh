@@ -1,5 +1,5 @@
 #!/usr/bin/env bash
-# wrong_definitions.sh [CRATE..]: tries the wrong definitions of the crates that say sentences of document 01, crates/CRATE/wrong/specs/*.edit. Each is
+# wrong_definitions.sh [CRATE..]: tries the wrong definitions of the crates that say sentences of document 01, the edits of crates/CRATE/must-fail that change specs. Each is
 # an edit of the crate's specs in the form of rt's must-fail edits, with a line `refused: FILE LAW`: a law of the meaning, or a case that the prover computes, in that
 # file. With the edit the prover must refuse this law, by its own words. Not enough are: that the law isn't proved because another that it names isn't; and that the wrong
 # definition is none, since the prover doesn't take it.
@@ -20,8 +20,16 @@ top=$(dirname "$here")
 # shellcheck source=tests/kit.sh
 . "$here/kit.sh"
 page=docs/MEANING.md
-# those that this script looks at, the longest first; grammar has wrong definitions of rt's own beside these
+# those that this script looks at, the longest first
 believed='console_text listing exports grammar text laws values'
+
+# The wrong definitions of the crate. Of grammar's, those that name no law are for rt ci alone.
+definitions() { # CRATE
+    local edit
+    for edit in $(grep -slE '^file: specs/' "$top/crates/$1/must-fail"/*.edit); do
+        [ "$1" = grammar ] && ! grep -q '^refused: ' "$edit" || echo "$edit"
+    done
+}
 
 # The crate without its functions.
 prepare() { # CRATE FOLDER
@@ -225,8 +233,8 @@ one_crate() { # CRATE
         exit 1
     fi
     mv "$folder/checked" "$folder/unedited"
-    for edit in "$top/crates/$1/wrong/specs"/*.edit; do
-        [ -f "$edit" ] || { echo "$1: there is no wrong definition"; exit 1; }
+    [ -n "$(definitions "$1")" ] || { echo "$1: there is no wrong definition"; exit 1; }
+    for edit in $(definitions "$1"); do
         unedited "$1" "$folder"
         as_checked "$folder"
         try "$1" "$folder" "$edit"
@@ -248,7 +256,8 @@ one_crate() { # CRATE
 
 [ "${1:-}" != --one ] || one_crate "$2"
 crates=${*:-$believed}
-for crate in $(cd "$top/crates" && find . -path '*/wrong/specs/*.edit' | cut -d / -f 2 | sort -u); do
+for crate in $(cd "$top/crates" && echo *); do
+    [ -n "$(definitions "$crate")" ] || continue
     case " $believed " in *" $crate "*) ;; *) echo "wrong_definitions.sh: it does not look at $crate, which has wrong definitions"; exit 1 ;; esac
 done
 # shellcheck disable=SC2086

@@ -26,7 +26,7 @@ renamed 'a function of another crate' 'limits is not in crates/form/src' 's/runs
 renamed 'a function without a file that the head leaves out' 'crates/listing/proofs/read is not there' 's/; listing `read`; console_text/; console_text/'
 renamed 'a function with a file that the head has among those without' 'crates/table/proofs/sizes/size_ok is there' 's/(No file.*: table )/\1`size_ok`, /'
 renamed 'a wrong definition that is not there' 'crates/grammar/must-fail/not_restores.edit is not there' 's/`not_restores_slots`/`not_restores`/'
-renamed 'a wrong program that is not there' 'crates/runs/wrong/code/does_more.edit is not there' 's/`does_nothing`/`does_more`/'
+renamed 'a wrong program that is not there' 'crates/runs/must-fail/does_more.edit is not there' 's/`does_nothing`/`does_more`/'
 renamed 'a group that is not there' 'table has no group and no case "2 FIELDS"' 's/"2 FIELD"/"2 FIELDS"/'
 renamed 'a sentence without a group' 'typing has no group "Constraints: Bool"' 's/^\| Constraint: Bool/| Constraints: Bool/'
 renamed 'a console input that is not there' 'tests/console/line-99-*.console is not there' 's/`line-11-\*`/`line-99-*`/'

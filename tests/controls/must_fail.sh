@@ -1,9 +1,9 @@
 # shellcheck shell=bash
 # One crate, the smallest that has both a proof in a file and proofs that rattle makes.
-edits=crates/stages/wrong/code
+edits=crates/stages/must-fail
 copy crates crates.txt examples/case-a
 for crate in crates/*; do ln -s "$top/$crate/out" "$crate/out"; done
-find crates -path '*/wrong/code/*.edit' ! -path "$edits/control.edit" ! -path "$edits/visits_forgotten.edit" -delete
+find crates -path '*/must-*/*.edit' ! -path crates/stages/must-pass/control.edit ! -path "$edits/visits_forgotten.edit" -delete
 
 edit() { # NAME LINES..
     local name=$1
@@ -38,7 +38,7 @@ says 'not_lost: its names are not those that the proof of move_to has lost'
 says 'not_told: NOT TOLD by examples/case-a/case-a.console: as stored'
 says 'visits_forgotten: refused at move_to, returns'
 says 'control: not refused, as a control must be'
-rm "$edits"/[!v]*.edit
+rm "$edits"/[!v]*.edit crates/stages/must-pass/*.edit
 fails 'wrong programs without a control' 'stages: there is no control' tests/must_fail.sh stages
 rm "$edits"/*.edit
 fails 'no wrong program' 'there is no wrong program' tests/must_fail.sh

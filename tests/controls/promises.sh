@@ -30,13 +30,13 @@ copy crates docs
 change "$page" 's/`runs::bench`/`runs::benches`/'
 fails 'a function that is not there' 'runs::benches is no public function' tests/promises.sh
 copy crates docs
-rm crates/runs/wrong/code/does_nothing.edit
+rm crates/runs/must-fail/does_nothing.edit
 fails 'an edit that is not there' 'runs/does_nothing.edit is not there' tests/promises.sh
 copy crates docs
-cp crates/runs/wrong/code/does_nothing.edit crates/runs/wrong/code/does_more.edit
+cp crates/runs/must-fail/does_nothing.edit crates/runs/must-fail/does_more.edit
 fails 'an edit that the page leaves out' 'runs/does_more.edit is not named' tests/promises.sh
 copy crates docs
-cp crates/text/wrong/specs/half_a_pair_is_read.edit crates/text/wrong/specs/a_pair_is_half.edit
+cp crates/text/must-fail/half_a_pair_is_read.edit crates/text/must-fail/a_pair_is_half.edit
 fails 'a wrong definition that the page leaves out' 'text/a_pair_is_half.edit is not named' tests/promises.sh
 copy crates docs
 change "$page" 's|`grammar/specs/Answer.answer`|`grammar/specs/Answer.answers`|'

@@ -1,12 +1,12 @@
 # shellcheck shell=bash
 # One crate, a small one; most of what can be wrong with an edit in one run.
-edits=crates/values/wrong/specs
+edits=crates/values/must-fail
 cases='proofs/Cases.antt'
 
 fresh() { # into a copy with one edit
     copy crates docs/MEANING.md crates.txt
     for crate in crates/*; do ln -s "$top/$crate/out" "$crate/out"; done
-    find crates -path '*/wrong/specs/*.edit' ! -path "$edits/the_empty_part_in_the_literals.edit" -delete
+    find crates -path '*/must-fail/*.edit' ! -path "$edits/the_empty_part_in_the_literals.edit" -delete
 }
 
 edit() { # NAME LINES..
@@ -56,6 +56,5 @@ fresh
 rm "$edits"/*.edit
 fails 'a crate without a wrong definition' 'values: there is no wrong definition' tests/wrong_definitions.sh values
 fresh
-mkdir crates/form/wrong/specs
-mv "$edits"/*.edit crates/form/wrong/specs
+mv "$edits"/*.edit crates/form/must-fail
 fails 'wrong definitions of a crate that is not looked at' 'it does not look at form' tests/wrong_definitions.sh values
