@@ -1,5 +1,5 @@
 #!/usr/bin/env python3
-"""edits_fit.py TOP [LANDED]: whether the wrong programs and definitions, TOP/crates/*/must-fail/**/*.edit, still fit the files that they change: each `old:` text must stand
+"""edits_fit.py TOP [LANDED]: whether the wrong programs and definitions, TOP/crates/*/must-*/*.edit, still fit the files that they change: each `old:` text must stand
 just once in its file, as the pairs before it left that, and `new:` must be another text. Says which do not, and ends with 1 if any does not. Nothing is proved.
 
 LANDED is a checkout of an older commit: then it also prints, as rows of a table, which edits are not in both, and how the others differ: comment lines and keys, and the
@@ -9,14 +9,17 @@ import sys
 
 
 def edits(top):
-    """The edits, by their path below crates/."""
+    """The edits, each by its crate and its name, wherever in the crate it stands."""
     found = {}
     for folder, dirs, names in os.walk(os.path.join(top, "crates")):
         dirs[:] = sorted(d for d in dirs if d != "out")
         for n in sorted(names):
             if n.endswith(".edit"):
                 path = os.path.join(folder, n)
-                found[os.path.relpath(path, os.path.join(top, "crates"))] = read(path)
+                name = os.path.relpath(path, os.path.join(top, "crates")).split("/")[0] + "/" + n
+                if name in found:
+                    sys.exit(f"two edits are called {name}")
+                found[name] = read(path)
     return found
 
 
@@ -75,7 +78,7 @@ def beside(then, now):
     """Prints the rows of what differs."""
     turned = kept = 0
     for name in sorted(then.keys() | now.keys()):
-        told = name.removesuffix(".edit").replace("/must-fail/", "/")
+        told = name.removesuffix(".edit")
         if name not in then or name not in now:
             print(f"| {told} | {'there' if name in then else 'not there'} | {'there' if name in now else 'NOT THERE'} |")
             continue
