@@ -190,15 +190,20 @@ lost_names() { # FOLDER FUNCTION
         END { print names }' "$1/log"
 }
 
-# Brings the names in the proof of the edit's function to what the edit makes of them. Each that is to be renamed must be among those that the prover has missed.
+# Brings the names in the proof of the edit's function to what the edit makes of them, all at once, so that two can be exchanged. Each that is to be renamed must be among those
+# that the prover has missed.
 rename() { # CRATE FOLDER EDIT
-    local old new function missed
+    local old new function missed number=0 away=() back=()
     function=$(function_of "$3")
     missed=$(lost_names "$2" "$function")
     while read -r old new; do
         [[ $missed == *"$old"* ]] || return 1
-        sed -i -E "s/(^|[^A-Za-z0-9_])$old([^A-Za-z0-9_]|\$)/\1$new\2/g; s/(^|[^A-Za-z0-9_])$old([^A-Za-z0-9_]|\$)/\1$new\2/g" "$2/crates/$1/proofs/${function//:://}"/*.antt
+        number=$((number + 1))
+        # twice, since what stands between two names is part of both
+        for _ in 1 2; do away+=(-e "s/(^|[^A-Za-z0-9_])$old([^A-Za-z0-9_]|\$)/\1@$number@\2/g"); done
+        back+=(-e "s/@$number@/$new/g")
     done < <(said_of "$3" renames)
+    sed -i -E "${away[@]}" "${back[@]}" "$2/crates/$1/proofs/${function//:://}"/*.antt
 }
 
 # The proofs without any renamed name.
