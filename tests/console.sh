@@ -64,7 +64,7 @@ for input in tests/console/done-display.console "$room"/large/input-65536-bytes.
     compare "$(basename "$input" .console), in two pieces" "${input%.console}.answer"
 done
 
-# An answer that can't be written is no success: the program, which has no exit status, says so on standard error.
+# An answer that can't be written is no success: the program says so on standard error, and ends with 1.
 for lost in '>/dev/full' '>&-'; do
     eval "\"\${program[@]}\" <tests/console/done-display.console $lost" 2>"$room/said" || true
     grep -qx 'console: the answer could not be written' "$room/said" || { echo "console, standard output lost ($lost): not told"; exit 1; }
