@@ -298,7 +298,7 @@ failing_proofs() { # RUN
     prints 'a program that was built before' "$sample.answer"
 }
 
-# The console program has no status of its own: whatever else than an answer comes from it is told.
+# Whatever else than an answer comes from the console program is told, and so is another end than with 0.
 failing_programs() { # RUN
     stand_in
     printf '#!/bin/sh\ncat "%s.answer"\necho "console: the answer could not be written" >&2\n' "$sample" >"$room/program"
