@@ -6,10 +6,10 @@ guide=$(rt doc) || guide=
 [ -f "$guide" ] || { echo "the rt on the path is not the Rattle kit's: 'rt doc' names no guide" >&2; exit 2; }
 kit=$(dirname "$guide")
 
-# The first file that is newer than FILE of all that it was made from: the crates and the kit. It says none where FILE isn't there.
+# The first file that is newer than FILE of all that it was made from: the crates and the kit. It says none where FILE or one of these isn't there.
 newer_than() { # FILE
     [ -f "$1" ] || { echo none; return; }
-    find crates crates.txt "$kit/KIT-ID" -path 'crates/*/out' -prune -o -type f -newer "$1" -print -quit
+    find crates crates.txt "$kit/KIT-ID" -path 'crates/*/out' -prune -o -type f -newer "$1" -print -quit 2>/dev/null || echo none
 }
 
 # The libraries of the repository that crates.txt lists for a crate, and the kit's, a line each; nothing for a crate that isn't listed.

@@ -6,7 +6,7 @@ export READER_LIBRARY=${READER_LIBRARY:?} READER_SHIPPED=${READER_SHIPPED:?}
 other() { # NAME TEXT SED-COMMAND
     copy docs tests/shipped
     change docs/styrmflo.h "$3"
-    READER_SHIPPED=$(tests/shipped.sh "$top/target/staticlib/libexports.a" "$room/other")
+    READER_SHIPPED=$(tests/shipped.sh "$top/crates/exports/out/libexports.a" "$room/other")
     fails "$1 in the header" "$2" "$compared"
 }
 other 'another W' 'W: 97601, not 9760' 's/(STYRMFLO_WORK_WORDS [0-9]+)/\11/'
