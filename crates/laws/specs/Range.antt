@@ -1,6 +1,6 @@
 -- A number within a range, both ends included. Assumes nothing.
-use Rattle.std.specs.Prelude.{Bool, true, false, ◌&&◌, ◌≡◌, ℕ, ◌≤◌, leb}
-use Rattle.std.proofs.Common.{true≢false, arith, leb-true, le-leb}
+use Rattle.std.specs.Prelude.{Bool, true, ◌&&◌, ◌≡◌, ℕ, ◌≤◌, leb}
+use Rattle.std.proofs.Common.{leb-true, le-leb}
 use Rattle.laws.specs.Tests.{both_left, both_right}
 
 abbrev pub within : (low high n : ℕ) → Bool
@@ -12,10 +12,3 @@ within_facts low high n e =
 
 pub within_right : (low high n : ℕ) → low ≤ n → n ≤ high → within low high n ≡ true
 within_right low high n h g = rw (le-leb low n h, le-leb n high g)
-
--- a number that the test found outside its range is not within it
-pub outside : (low high m n : ℕ) (t : Bool) → t ≡ within low high m → m ≡ n → t ≡ false → low ≤ n → n ≤ high → ⊥
-outside low high m n t e f g h k =
-    let r : within low high m ≡ true = within_right low high m (omega arith) (omega arith) in
-    let z : true ≡ false = cc in
-    true≢false z

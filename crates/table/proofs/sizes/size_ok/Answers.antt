@@ -1,4 +1,4 @@
-use Rattle.laws.specs.Range.{outside}
+use Rattle.laws.proofs.Range.{outside}
 use Rattle.table.proofs.Size.{Sized, size_wrong, size_found}
 use native.Mathlib.Omega.{arith}
 use mathlib.Core.Path.{sym, ◌∙◌}

@@ -1,7 +1,8 @@
 -- The invariant: what is left of the two slices is the same exactly where the slices are.
 use mathlib.Core.Path.{refl, ◌∙◌}
 use native.Mathlib.Omega.{arith}
-use Rattle.laws.specs.Same.{same_unlike, same_on, same_not, same_end}
+use Rattle.laws.specs.Same.{same_unlike, same_end}
+use Rattle.laws.proofs.Same.{same_on, same_not}
 use Rattle.values.proofs.texts.same_bytes.Goals as goal
 
 pub returns-then-x-y : goal.returns-then-x-y

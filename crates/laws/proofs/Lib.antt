@@ -1,0 +1,2 @@
+pub mod Range
+pub mod Same
