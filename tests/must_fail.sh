@@ -197,7 +197,8 @@ rename() { # CRATE FOLDER EDIT
     function=$(function_of "$3")
     missed=$(lost_names "$2" "$function")
     while read -r old new; do
-        [[ $missed == *"$old"* ]] || return 1
+        # missed, or a name that another takes
+        [[ $missed == *"$old"* ]] || said_of "$3" renames | grep -qE " $old\$" || return 1
         number=$((number + 1))
         # twice, since what stands between two names is part of both
         for _ in 1 2; do away+=(-e "s/(^|[^A-Za-z0-9_])$old([^A-Za-z0-9_]|\$)/\1@$number@\2/g"); done
