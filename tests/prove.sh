@@ -69,6 +69,6 @@ if [ "$status" = 0 ]; then
     if awk -v crate="crate $crate: modules " 'index($0, crate) == 1 { here = 1 } here && /^logic=proved / || /^rt: nothing has changed since the last proved build, / { told = 1 } END { exit !told }' "$log"; then exit; fi
     echo "rt $* says nothing of $crate" >&2
 fi
-grep -vE '^(statements|logic|library) ' "$log" | tail -n 20 >&2 || true
+grep -vE '^(statements|logic|library) |^rt: note: must-fail/' "$log" | tail -n 20 >&2 || true
 [ "$status" != 2 ] || exit 2
 exit 1
