@@ -6,9 +6,11 @@ be renamed, and which names fall together."""
 import collections
 import os
 import re
+import subprocess
 import sys
 
-KIT = "/opt/rattle/rattle"
+# The kit's library, beside its guide.
+KIT = os.path.join(os.path.dirname(subprocess.run(["rt", "doc"], capture_output=True, text=True, check=True).stdout.strip()), "rattle")
 TOKEN = re.compile(r"[A-Za-z_][A-Za-z0-9_']*(?:-[A-Za-z0-9_']+)*")
 HEAD = re.compile(r"^\s*(?:(?:pub|abbrev|unfoldable|pattern|record|data|inductive|infix[lr]? \d+)\s+)*((?:[A-Za-z_][A-Za-z0-9_'-]*\s+)*[A-Za-z_][A-Za-z0-9_'-]*)\s*(?:\{[^}]*\}\s*|\([^)]*\)\s*)*:")
 
