@@ -123,15 +123,18 @@ standing() {
         }' {} +
 }
 
-# The functions and constants of the crates, a line each: crate, name, `fn` or `const`, and a function's folder of proofs: of lib.rt and main.rt that of the crate, else of its module.
+# The functions and constants of the crates, a line each: crate, name, `fn` or `const`, and a function's folder of proofs: of lib.rt and main.rt that of the crate, else of its module; of a method, that of its type there (of a From, TYPEFromTYPE).
 written() {
     awk '
-        FNR == 1 { split(FILENAME, part, "/"); module = part[4]; sub(/\.rt$/, "/", module); if (module ~ /^(lib|main)\/$/) module = "" }
+        FNR == 1 { split(FILENAME, part, "/"); module = part[4]; sub(/\.rt$/, "/", module); if (module ~ /^(lib|main)\/$/) module = ""; type = "" }
+        /^impl [A-Za-z0-9_]+ \{$/ { type = $2 "/" }
+        /^impl From<[A-Za-z0-9_]+> for [A-Za-z0-9_]+ \{$/ { from = $2; gsub(/^From<|>$/, "", from); type = $4 "From" toupper(substr(from, 1, 1)) substr(from, 2) "/" }
+        /^\}/ { type = "" }
         /^ *(pub |pub\(crate\) )?(extern "C" )?(fn|const) / {
             name = $0; sub(/^ *(pub |pub\(crate\) )?(extern "C" )?/, "", name)
             sort = name; sub(/ .*/, "", sort)
             sub(/^[a-z]+ /, "", name); sub(/[^A-Za-z0-9_].*/, "", name)
-            print part[2] "\t" name "\t" sort "\t" part[2] "/proofs/" module name
+            print part[2] "\t" name "\t" sort "\t" part[2] "/proofs/" module type name
         }' crates/*/src/*.rt
 }
 

@@ -51,9 +51,9 @@ if [ "$target" = x86_64-unknown-linux-gnu ]; then
     "$clang" "${words[@]}" "$@" -x ir "$module"
     exit
 fi
-# On a 32-bit x86 a number of 64 bits stands at a multiple of 4: there a record that is read in one piece would be read from other places than it was written to. -O1 takes
-# such reads apart, by the places of x86-64, for which the module was made.
-case $target in i?86-*) apart=-O1 ;; *) apart=-O0 ;; esac
+# On a 32-bit processor a pointer is half as long as on x86-64, for which the module was made, and on a 32-bit x86 a number of 64 bits stands at a multiple of 4: there a record that is read in one piece
+# would be read from other places than it was written to, or half of it from none. -O1 takes such reads apart, by the places of x86-64.
+case $target in aarch64* | riscv64* | powerpc64* | mips64* | s390x*) apart=-O0 ;; *) apart=-O1 ;; esac
 "$clang" -w --target=x86_64-unknown-linux-gnu "$apart" -x ir "$module" -S -emit-llvm -o "$room/module.ll"
 sed -e '/^target datalayout/d' -e "s/^target triple.*/target triple = \"$target\"/" \
     -e 's/"target-cpu"="[^"]*"//g' -e 's/"target-features"="[^"]*"//g' -e 's/"tune-cpu"="[^"]*"//g' "$room/module.ll" >"$room/native.ll"

@@ -129,7 +129,8 @@ unsound() { # CRATE FOLDER EDIT
     local changed wanted file
     unedited "$1" "$2"
     wanted=$(function_of "$3")
-    wanted=${wanted//+/}
+    # a method is named by its impl too, as rt tells it
+    wanted=$(sed -E 's/[A-Z][A-Za-z0-9]*:://g' <<<"${wanted//+/}")
     [ -z "$(said_of "$3" constant)" ] || wanted=-
     if ! changed=$(apply "$3" "$2/crates/$1" | sort -u) || [ -z "$changed" ]; then
         echo 'an old text does not stand in its file just once'

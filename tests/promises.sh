@@ -30,7 +30,7 @@ unread() {
     local library
     for library in crates/*/src/lib.rt; do
         grep -rnE --include='*.rt' '\bpub\b|\bmod\b.*\{' "$(dirname "$library")" | grep -vE '^[^:]*:[0-9]+: *//' |
-            grep -vE '^[^:]*:[0-9]+: *pub((\(crate\))? (fn [a-z]|const [A-Z])| extern "C" fn [a-z]| mod [a-z_0-9]+;$| (struct|enum) | [a-z_0-9]+: )' || true
+            grep -vE '^[^:]*:[0-9]+: *pub((\(crate\))? (fn [a-z]|const [A-Z]|(struct|enum) [A-Z])| extern "C" fn [a-z]| mod [a-z_0-9]+;$| (struct|enum) | [a-z_0-9]+: )' || true
     done
 }
 

@@ -171,9 +171,11 @@ module "$turn" "$(turning @inner)"
 figures
 passes 'stack, a jump table, and at the end the call of a function' tests/stack.sh "$folder"
 
-# The reader has more jumps than tables, since the compiler puts a jump behind each way that leads to it; each is seen to read a table. Where it isn't, it may be a call.
+# The reader had more jumps than tables for a while, since the compiler puts a jump behind each way that leads to it; here its first jump stands twice. Each is seen to read a table. Where it isn't, it may be a call.
 mkdir "$room/reader"
 cp target/stack/x86_64.{s,su,o} docs/styrmflo.h tests/stack/cycles "$room/reader"
+awk '{ line[NR] = $0 } !at && /^\tjmpq\t\*%/ && line[NR - 2] ~ /^\tmovslq\t/ { at = NR - 2 }
+    END { for (i = 1; i <= NR; i++) { if (i == at) printf "\tje\t.LBB0_9999\n%s\n%s\n%s\n.LBB0_9999:\n", line[i], line[i + 1], line[i + 2]; print line[i] } }' target/stack/x86_64.s >"$room/reader/x86_64.s"
 reader=(tests/target/own/release/stack_bound x86_64 "$room/reader" "$room/reader/styrmflo.h" "$room/reader/cycles" memset=256)
 passes 'stack, more jumps than tables' "${reader[@]}"
 change "$room/reader/x86_64.s" 's/movslq/movzlq/'

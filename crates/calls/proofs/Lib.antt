@@ -1,2 +1,2 @@
-pub mod Cases
-pub mod Fours
+pub mod Gathering
+pub mod Slots

@@ -4,7 +4,6 @@
 
 ghost use Rattle.std.specs.Prelude.{◌≤◌, length, IfOk};
 
-use console_text::Response;
 use std::io::{self, Read, Write};
 
 // Failing to write is no success: it is said on standard error, and the program's end tells it too; `./run` ends with 2 where either is so.
@@ -57,8 +56,8 @@ fn main(rt: HostRuntime) -> io::Result<()> {
         &mut work,
         &mut output,
     ) {
-        Response::Written(count) => send(&rt, &output, count),
+        Some(count) => send(&rt, &output, count),
         // never, since the slices are as long as they have to be
-        Response::Short => complain(&rt),
+        None => complain(&rt),
     }
 }

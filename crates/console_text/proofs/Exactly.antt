@@ -1,4 +1,5 @@
 -- The plain meaning of the console's input, its first half: the inputs that are accepted are exactly those that are spelt so. Assumes nothing.
+use Rattle.std.specs.Prelude.{Option, Some, None, Err}
 use mathlib.Core.Path.{◌≡◌, refl, sym, ap, ◌∙◌, subst}
 use mathlib.Core.Logic.{◌↔◌}
 use mathlib.Core.List.{List, [], ◌∷◌, ◌++◌, append-nil}
@@ -10,30 +11,24 @@ use Rattle.laws.specs.Below.{AllBelow}
 use Rattle.laws.specs.Parts.{Stands, stands, stands_then, stands_first, stands_second}
 use Rattle.grammar.specs.declared.Mode.{Mode}
 use Rattle.grammar.specs.declared.Mode.TheVariants.{Bench, Display}
-use Rattle.text.specs.declared.Place.{Place}
-use Rattle.text.specs.declared.Place.TheVariants as P
-use Rattle.text.specs.declared.Number.{Number}
-use Rattle.text.specs.declared.Number.TheVariants as N
-use Rattle.text.specs.declared.Bytes.{Bytes}
-use Rattle.text.specs.declared.Bytes.TheVariants as B
 use Rattle.text.specs.Stored.{taking}
-use Rattle.text.specs.Found.{on_place, on_number, on_bytes, after_key, number}
+use Rattle.text.specs.Found.{on_place, on_number, after_key, number}
 use Rattle.text.specs.Written.{decimal, hex}
 use Rattle.text.proofs.Keys.{key_stands, key_reads}
 use Rattle.text.proofs.Numbers.{number_stands, number_within_lem, number_reads}
 use Rattle.text.proofs.Pairs.{pairs_reads}
-use Rattle.listing.specs.declared.Reading.TheVariants.{Done, Line}
+use Rattle.listing.specs.declared.Lengths.{Lengths}
+use Rattle.listing.specs.declared.Unread.TheVariants.{Line}
+use Rattle.std.proofs.lemmas.Option.{some_pair_parts}
 use Rattle.listing.specs.Listing.{listing}
-use Rattle.listing.specs.Reading.{key_at, Filled, fill, read_from}
+use Rattle.listing.specs.Reading.{done, key_at, Filled, fill, read_from}
 use Rattle.listing.specs.Plain as Listing
 use Rattle.listing.proofs.Exactly.{front_is, told, accepted_exactly as listing_exactly}
-use Rattle.console_text.specs.declared.request.ModeLine.{ModeLine}
-use Rattle.console_text.specs.declared.request.ModeLine.TheVariants as M
 use Rattle.console_text.specs.Asked.{bench_line, display_line, budget_key, message_key, Said, says, wrong_line, on_said, on_mode, Table, Asked, mode_line, budget_at, message_at, table_at, from_fourth, from_third, from_second, said}
 use Rattle.console_text.specs.Printed.{number_line}
 use Rattle.console_text.specs.Lent.{table_words, table_literals}
 use Rattle.console_text.specs.Plain.{mode_spelt, message_spelt, spelt, Right, AcceptedExactly}
-use Rattle.console_text.proofs.Tables.{read_said, read_says, message_found}
+use Rattle.console_text.proofs.Tables.{same_lengths, read_said, read_says, message_found}
 
 -- ════ The listing ════
 
@@ -70,14 +65,15 @@ module _ (input : List ℕ) (p : ℕ) (t : Table) (words : Room (table_words + l
 
   said_table : (s : Said Table) → read_said words.slice literals.slice s ≡ fill t.words t.literals words.slice literals.slice → s ≡ says t
   said_table (says u) e =
-      let f : Done (length u.words) (length u.literals) ≡ Done (length t.words) (length t.literals) = ap (λ (z : Filled). z.answer) e in
-      let m : length u.words ≡ length t.words = cc in
-      let n : length u.literals ≡ length t.literals = cc in
+      let f : done (length u.words) (length u.literals) ≡ done (length t.words) (length t.literals) = ap (λ (z : Filled). z.answer) e in
+      let same = same_lengths f in
+      let m : length u.words ≡ length t.words = ap (λ (z : Lengths). z.words) same in
+      let n : length u.literals ≡ length t.literals = ap (λ (z : Lengths). z.literals) same in
       let x : u.words ≡ t.words = front_is u.words t.words words.slice m (ap (λ (z : Filled). z.words) e) in
       let y : u.literals ≡ t.literals = front_is u.literals t.literals literals.slice n (ap (λ (z : Filled). z.literals) e) in
       ap says (same_table u t x y)
   said_table (wrong_line n) e =
-      let f : Line n ≡ Done (length t.words) (length t.literals) = ap (λ (z : Filled). z.answer) e in
+      let f : Err (Line n) ≡ done (length t.words) (length t.literals) = ap (λ (z : Filled). z.answer) e in
       let z : ◌≡◌ {A = ℕ} 0 1 = cc in
       absurd (omega arith)
 
@@ -109,51 +105,53 @@ module _ (input : List ℕ) where
 
   -- ════ The first two lines: what is found stands there (Tables.antt has it of the third) ════
 
-  pub mode_found : (mode : Mode) (q : ℕ) → mode_line input ≡ M.Is mode q → Stands input 0 (mode_spelt mode) q
+  pub mode_found : (mode : Mode) (q : ℕ) → mode_line input ≡ Some (mode, q) → Stands input 0 (mode_spelt mode) q
   unfolding mode_line
   mode_found mode q = bench (key_at input bench_line 0) refl
     where
-      display : (s : Place) → key_at input display_line 0 ≡ s → on_place M.Wrong (λ x. M.Is Display x) s ≡ M.Is mode q → Stands input 0 (mode_spelt mode) q
-      display (P.At x) f e =
-          let m : Display ≡ mode = cc in
-          let n : x ≡ q = cc in
-          subst (λ (z : Mode). Stands input 0 (mode_spelt z) q) m (key_stands input display_line 0 q (f ∙ ap P.At n))
-      display P.Wrong f e = let z : ◌≡◌ {A = ℕ} 0 1 = cc in absurd (omega arith)
+      display : (s : Option ℕ) → key_at input display_line 0 ≡ s → on_place {A = Option (Mode × ℕ)} None (λ x. Some (Display, x)) s ≡ Some (mode, q) → Stands input 0 (mode_spelt mode) q
+      display (Some x) f e =
+          let same = some_pair_parts Display mode x q e in
+          let m : Display ≡ mode = same.0 in
+          let n : x ≡ q = same.1 in
+          subst (λ (z : Mode). Stands input 0 (mode_spelt z) q) m (key_stands input display_line 0 q (f ∙ ap Some n))
+      display None f e = let z : ◌≡◌ {A = ℕ} 0 1 = cc in absurd (omega arith)
 
-      bench : (s : Place) → key_at input bench_line 0 ≡ s
-          → on_place (on_place M.Wrong (λ x. M.Is Display x) (key_at input display_line 0)) (λ x. M.Is Bench x) s ≡ M.Is mode q → Stands input 0 (mode_spelt mode) q
-      bench (P.At x) f e =
-          let m : Bench ≡ mode = cc in
-          let n : x ≡ q = cc in
-          subst (λ (z : Mode). Stands input 0 (mode_spelt z) q) m (key_stands input bench_line 0 q (f ∙ ap P.At n))
-      bench P.Wrong f e = display (key_at input display_line 0) refl e
+      bench : (s : Option ℕ) → key_at input bench_line 0 ≡ s
+          → on_place {A = Option (Mode × ℕ)} (on_place None (λ x. Some (Display, x)) (key_at input display_line 0)) (λ x. Some (Bench, x)) s ≡ Some (mode, q) → Stands input 0 (mode_spelt mode) q
+      bench (Some x) f e =
+          let same = some_pair_parts Bench mode x q e in
+          let m : Bench ≡ mode = same.0 in
+          let n : x ≡ q = same.1 in
+          subst (λ (z : Mode). Stands input 0 (mode_spelt z) q) m (key_stands input bench_line 0 q (f ∙ ap Some n))
+      bench None f e = display (key_at input display_line 0) refl e
 
   pub record Budget-stands (p n q : ℕ) : Type 0 where
     pub part : Stands input p (number_line budget_key n) q
     pub fits : n < 4294967296
 
-  pub budget_found : (p n q : ℕ) → budget_at input p ≡ N.Is n q → Budget-stands p n q
+  pub budget_found : (p n q : ℕ) → budget_at input p ≡ Some (n, q) → Budget-stands p n q
   unfolding budget_at number_line
   budget_found p n q = go (key_at input budget_key p) refl
     where
-      go : (s : Place) → key_at input budget_key p ≡ s → on_place N.Wrong (λ x. number 10 4294967295 x (drop x input)) s ≡ N.Is n q → Budget-stands p n q
-      go (P.At x) f e =
+      go : (s : Option ℕ) → key_at input budget_key p ≡ s → on_place None (λ x. number 10 4294967295 x (drop x input)) s ≡ Some (n, q) → Budget-stands p n q
+      go (Some x) f e =
           record {
             part = stands_then (key_stands input budget_key p x f) (number_stands input 10 4294967295 x n q (omega arith) e);
             fits = omega (arith, number_within_lem 10 4294967295 x (drop x input) n q (omega arith) e);
           }
-      go P.Wrong f e = let z : ◌≡◌ {A = ℕ} 0 1 = cc in absurd (omega arith)
+      go None f e = let z : ◌≡◌ {A = ℕ} 0 1 = cc in absurd (omega arith)
 
   -- ════ The first three lines: what stands there is found ════
 
-  pub mode_back : (mode : Mode) (q : ℕ) → Stands input 0 (mode_spelt mode) q → mode_line input ≡ M.Is mode q
+  pub mode_back : (mode : Mode) (q : ℕ) → Stands input 0 (mode_spelt mode) q → mode_line input ≡ Some (mode, q)
   unfolding mode_line after_key
   mode_back Bench q s = rw (key_reads input bench_line 0 q s)
   mode_back Display q s =
-      let other : key_at input bench_line 0 ≡ P.Wrong = ap (after_key bench_line 0) s.is in
+      let other : key_at input bench_line 0 ≡ None = ap (after_key bench_line 0) s.is in
       rw (other, key_reads input display_line 0 q s)
 
-  pub budget_back : (p n q : ℕ) → n < 4294967296 → Stands input p (number_line budget_key n) q → budget_at input p ≡ N.Is n q
+  pub budget_back : (p n q : ℕ) → n < 4294967296 → Stands input p (number_line budget_key n) q → budget_at input p ≡ Some (n, q)
   unfolding budget_at number_line
   budget_back p n q h s =
       let rest : List ℕ = decimal n ++ (10 ∷ []) in
@@ -162,7 +160,7 @@ module _ (input : List ℕ) where
       (number_reads input 10 4294967295 x n q (omega arith) (omega arith) (omega arith) (stands_second budget_key rest s))
 
   pub message_back : (p q : ℕ) (message : List ℕ) → AllBelow 256 message → Stands input p (message_spelt message) q
-      → message_at input p ≡ taking message (B.Are (length message) q)
+      → message_at input p ≡ taking message (Some (length message, q))
   unfolding message_at
   message_back p q message h s =
       let rest : List ℕ = hex message ++ (10 ∷ []) in
@@ -176,7 +174,7 @@ module _ (input : List ℕ) where
   only a = modes (mode_line input) refl
     where
       fourth : (mode : Mode) (b budget p n q : ℕ) (s : Said Table) → Stands input 0 (mode_spelt mode) b → Budget-stands b budget p
-          → (message_at input p).found ≡ B.Are n q → table_at input q ≡ s
+          → (message_at input p).found ≡ Some (n, q) → table_at input q ≡ s
           → on_said wrong_line (λ table. says (record { mode = mode; budget = budget; message = (message_at input p).numbers; table = table })) s ≡ says a
           → Right a × (input ≡ spelt a)
       fourth mode b budget p n q (says t) w v f g e =
@@ -191,19 +189,19 @@ module _ (input : List ℕ) where
           subst (λ (z : Asked). Right z × (input ≡ spelt z)) same (right, is)
       fourth mode b budget p n q (wrong_line m) w v f g e = let z : ◌≡◌ {A = ℕ} 0 1 = cc in absurd (omega arith)
 
-      third : (mode : Mode) (b budget p : ℕ) (s : Bytes) → Stands input 0 (mode_spelt mode) b → Budget-stands b budget p → (message_at input p).found ≡ s
-          → on_bytes (wrong_line 3) (λ n q. from_fourth input mode budget (message_at input p).numbers q) s ≡ says a → Right a × (input ≡ spelt a)
-      third mode b budget p (B.Are n q) w v f e = fourth mode b budget p n q (table_at input q) w v f refl e
-      third mode b budget p B.Wrong w v f e = let z : ◌≡◌ {A = ℕ} 0 1 = cc in absurd (omega arith)
+      third : (mode : Mode) (b budget p : ℕ) (s : Option (ℕ × ℕ)) → Stands input 0 (mode_spelt mode) b → Budget-stands b budget p → (message_at input p).found ≡ s
+          → on_number (wrong_line 3) (λ n q. from_fourth input mode budget (message_at input p).numbers q) s ≡ says a → Right a × (input ≡ spelt a)
+      third mode b budget p (Some (n, q)) w v f e = fourth mode b budget p n q (table_at input q) w v f refl e
+      third mode b budget p None w v f e = let z : ◌≡◌ {A = ℕ} 0 1 = cc in absurd (omega arith)
 
-      second : (mode : Mode) (b : ℕ) (s : Number) → Stands input 0 (mode_spelt mode) b → budget_at input b ≡ s
+      second : (mode : Mode) (b : ℕ) (s : Option (ℕ × ℕ)) → Stands input 0 (mode_spelt mode) b → budget_at input b ≡ s
           → on_number (wrong_line 2) (λ budget q. from_third input mode budget q) s ≡ says a → Right a × (input ≡ spelt a)
-      second mode b (N.Is budget p) w f e = third mode b budget p (message_at input p).found w (budget_found b budget p f) refl e
-      second mode b N.Wrong w f e = let z : ◌≡◌ {A = ℕ} 0 1 = cc in absurd (omega arith)
+      second mode b (Some (budget, p)) w f e = third mode b budget p (message_at input p).found w (budget_found b budget p f) refl e
+      second mode b None w f e = let z : ◌≡◌ {A = ℕ} 0 1 = cc in absurd (omega arith)
 
-      modes : (s : ModeLine) → mode_line input ≡ s → on_mode (wrong_line 1) (λ mode p. from_second input mode p) s ≡ says a → Right a × (input ≡ spelt a)
-      modes (M.Is mode b) f e = second mode b (budget_at input b) (mode_found mode b f) refl e
-      modes M.Wrong f e = let z : ◌≡◌ {A = ℕ} 0 1 = cc in absurd (omega arith)
+      modes : (s : Option (Mode × ℕ)) → mode_line input ≡ s → on_mode (wrong_line 1) (λ mode p. from_second input mode p) s ≡ says a → Right a × (input ≡ spelt a)
+      modes (Some (mode, b)) f e = second mode b (budget_at input b) (mode_found mode b f) refl e
+      modes None f e = let z : ◌≡◌ {A = ℕ} 0 1 = cc in absurd (omega arith)
 
   back : (a : Asked) → Right a → input ≡ spelt a → said input ≡ says a
   unfolding said spelt

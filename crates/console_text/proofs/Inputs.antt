@@ -1,5 +1,6 @@
 -- What the console reads and prints beyond case A, line by line, and the plain meaning's own words for case A: cases that the prover computes, written out from
 -- document 01, 'Listing and console'. Assumes nothing.
+use Rattle.std.specs.Prelude.{Some, None}
 use mathlib.Core.Path.{◌≡◌, refl}
 use mathlib.Core.List.{List, [], ◌∷◌, ◌++◌, map}
 use mathlib.Core.Bool.{true, false}
@@ -12,16 +13,12 @@ use Rattle.grammar.specs.declared.Value.TheVariants as Val
 use Rattle.grammar.specs.declared.Answer.{Answer}
 use Rattle.grammar.specs.Form.{every}
 use Rattle.grammar.specs.Values.{span_bytes, text_bytes}
-use Rattle.text.specs.declared.Number.TheVariants as N
-use Rattle.text.specs.declared.Bytes.TheVariants as B
 use Rattle.text.specs.Stored.{taking}
 use Rattle.text.specs.Found.{after_key, digit, grown, number_from, number, hex_value, pair_value, pairs}
 use Rattle.text.specs.Written.{digits, decimal, signed_decimal, hex_digit, hex}
 use Rattle.listing.specs.Listing.{ending, numbers, line, record_lines, literals_line, head_lines, body_lines, listing}
 use Rattle.listing.specs.Reading.{numbers_at, line_at, lines_at, count_at, literals_at, head_at, body_at}
 use Rattle.listing.specs.Plain.{first_lines}
-use Rattle.console_text.specs.declared.request.ModeLine.TheVariants as M
-use Rattle.console_text.specs.declared.Response.TheVariants.{Written, Short}
 use Rattle.console_text.specs.Asked.{says, wrong_line, Asked, mode_line, budget_at, message_at, table_at, said}
 use Rattle.console_text.specs.Printed.{number_line, text_text, value_text, value_line, number_lines, value_lines, answer_lines}
 use Rattle.console_text.specs.Console.{too_long, wrong_at, console_answer, printed, console_text}
@@ -84,7 +81,7 @@ pub modes :
     ∷ (109 ∷ 111 ∷ 100 ∷ 101 ∷ 61 ∷ 100 ∷ 105 ∷ 115 ∷ 112 ∷ 108 ∷ 97 ∷ 121 ∷ 115 ∷ 10 ∷ [])  -- `mode=displays`
     ∷ (98 ∷ 117 ∷ 100 ∷ 103 ∷ 101 ∷ 116 ∷ 61 ∷ 50 ∷ 10 ∷ [])  -- `budget=2`
     ∷ [])
-    ≡ M.Is Bench 11 ∷ M.Is Display 13 ∷ M.Wrong ∷ M.Wrong ∷ M.Wrong ∷ M.Wrong ∷ M.Wrong ∷ []
+    ≡ Some (Bench, 11) ∷ Some (Display, 13) ∷ None ∷ None ∷ None ∷ None ∷ None ∷ []
 unfolding mode_line after_key
 modes = refl
 
@@ -99,7 +96,7 @@ pub budgets :
     ∷ (98 ∷ 117 ∷ 100 ∷ 103 ∷ 101 ∷ 116 ∷ 61 ∷ 50 ∷ 32 ∷ 10 ∷ [])  -- `budget=2 `
     ∷ (114 ∷ 117 ∷ 108 ∷ 101 ∷ 115 ∷ 61 ∷ 50 ∷ 10 ∷ [])  -- `rules=2`
     ∷ [])
-    ≡ N.Is 0 9 ∷ N.Is 4294967295 18 ∷ N.Wrong ∷ N.Wrong ∷ N.Wrong ∷ N.Wrong ∷ N.Wrong ∷ []
+    ≡ Some (0, 9) ∷ Some (4294967295, 18) ∷ None ∷ None ∷ None ∷ None ∷ None ∷ []
 unfolding budget_at after_key number number_from grown digit
 budgets = refl
 
@@ -110,7 +107,7 @@ pub messages :
     ∷ (109 ∷ 101 ∷ 115 ∷ 115 ∷ 97 ∷ 103 ∷ 101 ∷ 61 ∷ 52 ∷ 55 ∷ 51 ∷ 49 ∷ 10 ∷ [])  -- `message=4731`
     ∷ (109 ∷ 101 ∷ 115 ∷ 115 ∷ 97 ∷ 103 ∷ 101 ∷ 61 ∷ 48 ∷ 97 ∷ 102 ∷ 102 ∷ 10 ∷ [])  -- `message=0aff`
     ∷ [])
-    ≡ taking [] (B.Are 0 9) ∷ taking (71 ∷ 49 ∷ []) (B.Are 2 13) ∷ taking (10 ∷ 255 ∷ []) (B.Are 2 13) ∷ []
+    ≡ taking [] (Some (0, 9)) ∷ taking (71 ∷ 49 ∷ []) (Some (2, 13)) ∷ taking (10 ∷ 255 ∷ []) (Some (2, 13)) ∷ []
 unfolding message_at after_key pairs pair_value hex_value digit
 messages = refl
 
@@ -123,7 +120,7 @@ pub no_messages :
     ∷ (109 ∷ 101 ∷ 115 ∷ 115 ∷ 97 ∷ 103 ∷ 101 ∷ 61 ∷ 52 ∷ 55 ∷ 51 ∷ 49 ∷ [])  -- `message=4731`
     ∷ (108 ∷ 105 ∷ 116 ∷ 101 ∷ 114 ∷ 97 ∷ 108 ∷ 115 ∷ 61 ∷ 52 ∷ 55 ∷ 51 ∷ 49 ∷ 10 ∷ [])  -- `literals=4731`
     ∷ [])
-    ≡ B.Wrong ∷ B.Wrong ∷ B.Wrong ∷ B.Wrong ∷ B.Wrong ∷ []
+    ≡ None ∷ None ∷ None ∷ None ∷ None ∷ []
 unfolding message_at after_key pairs pair_value hex_value digit
 no_messages = refl
 
@@ -137,10 +134,11 @@ record1 =
       place = 2;
       consumed = 3;
       visits = 4;
-      value0 = Val.Bool true;
-      value1 = Val.Integer (negsuc 2);
-      value2 = Val.Text (record { literal = false; start = 1; length = 0 });
-      value3 = Val.Text (record { literal = false; start = 0; length = 1 });
+      values = Val.Bool true
+          ∷ Val.Integer (negsuc 2)
+          ∷ Val.Text (record { literal = false; start = 1; length = 0 })
+          ∷ Val.Text (record { literal = false; start = 0; length = 1 })
+          ∷ [];
     }
 
 -- 'number, place, consumed, visits, four values'
@@ -171,12 +169,12 @@ output_of n = replicate n 7
 -- 'INPUT comes before all else': ten bytes of the output are enough for it, nine are not; what stands behind the line stays
 pub input_before_all :
     map (λ (n : ℕ). respond (replicate 65537 48) (lent [] [] [] [] (output_of n))) (12 ∷ 9 ∷ [])
-    ≡ responded (Written 10) (lent [] [] [] [] (printed_input ++ output_of 2)) ∷ responded Short (lent [] [] [] [] (output_of 9)) ∷ []
+    ≡ responded (Some 10) (lent [] [] [] [] (printed_input ++ output_of 2)) ∷ responded None (lent [] [] [] [] (output_of 9)) ∷ []
 unfolding printed_input respond room_for afterwards over console_text console_answer printed number_line decimal digits
 input_before_all = refl
 
 -- every other answer wants slices that have room for every input
-pub other_answers_want_room : respond [] (lent [] [] [] [] (output_of 12)) ≡ responded Short (lent [] [] [] [] (output_of 12))
+pub other_answers_want_room : respond [] (lent [] [] [] [] (output_of 12)) ≡ responded None (lent [] [] [] [] (output_of 12))
 unfolding respond room_for enough every
 other_answers_want_room = refl
 

@@ -1,4 +1,5 @@
 -- How long what the console reads and prints is at most. Assumes nothing.
+use Rattle.std.specs.Prelude.{Option, Some, None, Result, Ok, Err}
 use mathlib.Core.Path.{◌≡◌, refl, ap}
 use mathlib.Core.List.{List, [], ◌∷◌}
 use mathlib.Core.Bool.{Bool, true, false, cond}
@@ -6,7 +7,7 @@ use Prim.Native.Nat.{ℕ, suc, ◌+◌, ◌*◌, ◌≤◌}
 use native.Mathlib.Omega.{arith}
 use lib.Dec.{ltb}
 use lib.IntN.{ℤ, pos, negsuc}
-use lib.ListN.{length, take, drop, length-append, length-take, length-drop}
+use lib.ListN.{length, take, drop, length-append, length-take, length-drop, get_or}
 use borrow.Author.Tests.{ltb-false}
 use Rattle.grammar.specs.declared.Mode.{Mode}
 use Rattle.grammar.specs.declared.Span.{Span}
@@ -14,22 +15,13 @@ use Rattle.grammar.specs.declared.Value.{Value}
 use Rattle.grammar.specs.declared.Value.TheVariants as Val
 use Rattle.grammar.specs.declared.Answer.{Answer}
 use Rattle.grammar.specs.Values.{span_fits, span_bytes, text_bytes}
-use Rattle.text.specs.declared.Number.{Number}
-use Rattle.text.specs.declared.Number.TheVariants as N
-use Rattle.text.specs.declared.Bytes.{Bytes}
-use Rattle.text.specs.declared.Bytes.TheVariants as B
-use Rattle.text.specs.Found.{on_number, on_bytes}
+use Rattle.text.specs.Found.{on_number}
 use Rattle.text.specs.Written.{signed_decimal}
 use Rattle.text.proofs.Decimals.{decimal_length}
 use Rattle.text.proofs.Pairs.{hex_length}
-use Rattle.listing.specs.declared.reader.Lines.{Lines}
-use Rattle.listing.specs.declared.reader.Lines.TheVariants as L
 use Rattle.listing.specs.declared.reader.Head.{Head}
-use Rattle.listing.specs.declared.reader.Head.TheVariants as H
-use Rattle.listing.specs.Reading.{on_head, on_lines, head_at, body_at}
+use Rattle.listing.specs.Reading.{Lines, head_of, on_head, on_lines, head_at, body_at}
 use Rattle.listing.proofs.Whole.{head_found, body_found}
-use Rattle.console_text.specs.declared.request.ModeLine.{ModeLine}
-use Rattle.console_text.specs.declared.request.ModeLine.TheVariants as M
 use Rattle.console_text.specs.Asked.{Said, says, wrong_line, on_said, on_mode, Table, Asked, body_said, mode_line, budget_at, message_at, table_at, from_fourth, from_third, from_second, said}
 use Rattle.console_text.specs.Printed.{answer_key, place_key, consumed_key, visits_key, number_line, text_text, value_text, value_line, number_lines, value_lines, answer_lines}
 use Rattle.console_text.specs.Console.{longest_input, line_record, answer_to, too_long, wrong_at, ran, console_answer, printed, console_text}
@@ -51,10 +43,10 @@ module _ (input : List ℕ) where
   unfolding table_at
   table_fits p t = heads (head_at input 4 p).found refl
     where
-      body : (r k n q : ℕ) (s : Lines) → (head_at input 4 p).found ≡ H.Is r k n q → (body_at input r k 7 q).found ≡ s
+      body : (r k n q : ℕ) (s : Lines) → (head_at input 4 p).found ≡ Ok (head_of r k n q) → (body_at input r k 7 q).found ≡ s
           → on_lines wrong_line (λ x. says (record { words = r ∷ k ∷ n ∷ (body_at input r k 7 q).numbers; literals = (head_at input 4 p).numbers })) s ≡ says t
           → Table-fits t
-      body r k n q (L.At x) f g e =
+      body r k n q (Ok x) f g e =
           let a = head_found input 4 p r k n q f in
           let b = body_found input r k 7 q x g in
           let made : Table = record { words = r ∷ k ∷ n ∷ (body_at input r k 7 q).numbers; literals = (head_at input 4 p).numbers } in
@@ -65,17 +57,17 @@ module _ (input : List ℕ) where
             words_most = omega (arith, b.count, a.rules_most, a.nodes_most);
             literals_most = omega (arith, a.count, a.literals_most);
           }
-      body r k n q (L.Wrong m) f g e = let z : ◌≡◌ {A = ℕ} 0 1 = cc in absurd (omega arith)
+      body r k n q (Err m) f g e = let z : ◌≡◌ {A = ℕ} 0 1 = cc in absurd (omega arith)
 
-      heads : (s : Head) → (head_at input 4 p).found ≡ s → on_head wrong_line (λ r k n q. body_said input r k n q (head_at input 4 p).numbers) s ≡ says t → Table-fits t
-      heads (H.Is r k n q) f e = body r k n q (body_at input r k 7 q).found f refl e
-      heads (H.Wrong m) f e = let z : ◌≡◌ {A = ℕ} 0 1 = cc in absurd (omega arith)
+      heads : (s : Result Head ℕ) → (head_at input 4 p).found ≡ s → on_head wrong_line (λ r k n q. body_said input r k n q (head_at input 4 p).numbers) s ≡ says t → Table-fits t
+      heads (Ok x) f e = body x.rules x.nodes x.literals x.next (body_at input x.rules x.nodes 7 x.next).found f refl e
+      heads (Err m) f e = let z : ◌≡◌ {A = ℕ} 0 1 = cc in absurd (omega arith)
 
   pub asked_fits : length input ≤ longest_input → (a : Asked) → said input ≡ says a → Asked-fits a
   unfolding said
   asked_fits h a = modes (mode_line input)
     where
-      fourth : (mode : Mode) (budget p n q : ℕ) (s : Said Table) → (message_at input p).found ≡ B.Are n q → table_at input q ≡ s
+      fourth : (mode : Mode) (budget p n q : ℕ) (s : Said Table) → (message_at input p).found ≡ Some (n, q) → table_at input q ≡ s
           → on_said wrong_line (λ table. says (record { mode = mode; budget = budget; message = (message_at input p).numbers; table = table })) s ≡ says a → Asked-fits a
       fourth mode budget p n q (says t) f g e =
           let m = message_found input p n q f in
@@ -86,18 +78,18 @@ module _ (input : List ℕ) where
           rw same at fits
       fourth mode budget p n q (wrong_line m) f g e = let z : ◌≡◌ {A = ℕ} 0 1 = cc in absurd (omega arith)
 
-      third : (mode : Mode) (budget p : ℕ) (s : Bytes) → (message_at input p).found ≡ s
-          → on_bytes (wrong_line 3) (λ n q. from_fourth input mode budget (message_at input p).numbers q) s ≡ says a → Asked-fits a
-      third mode budget p (B.Are n q) f e = fourth mode budget p n q (table_at input q) f refl e
-      third mode budget p B.Wrong f e = let z : ◌≡◌ {A = ℕ} 0 1 = cc in absurd (omega arith)
+      third : (mode : Mode) (budget p : ℕ) (s : Option (ℕ × ℕ)) → (message_at input p).found ≡ s
+          → on_number (wrong_line 3) (λ n q. from_fourth input mode budget (message_at input p).numbers q) s ≡ says a → Asked-fits a
+      third mode budget p (Some (n, q)) f e = fourth mode budget p n q (table_at input q) f refl e
+      third mode budget p None f e = let z : ◌≡◌ {A = ℕ} 0 1 = cc in absurd (omega arith)
 
-      second : (mode : Mode) (s : Number) → on_number (wrong_line 2) (λ budget q. from_third input mode budget q) s ≡ says a → Asked-fits a
-      second mode (N.Is budget q) e = third mode budget q (message_at input q).found refl e
-      second mode N.Wrong e = let z : ◌≡◌ {A = ℕ} 0 1 = cc in absurd (omega arith)
+      second : (mode : Mode) (s : Option (ℕ × ℕ)) → on_number (wrong_line 2) (λ budget q. from_third input mode budget q) s ≡ says a → Asked-fits a
+      second mode (Some (budget, q)) e = third mode budget q (message_at input q).found refl e
+      second mode None e = let z : ◌≡◌ {A = ℕ} 0 1 = cc in absurd (omega arith)
 
-      modes : (s : ModeLine) → on_mode (wrong_line 1) (λ mode p. from_second input mode p) s ≡ says a → Asked-fits a
-      modes (M.Is mode p) e = second mode (budget_at input p) e
-      modes M.Wrong e = let z : ◌≡◌ {A = ℕ} 0 1 = cc in absurd (omega arith)
+      modes : (s : Option (Mode × ℕ)) → on_mode (wrong_line 1) (λ mode p. from_second input mode p) s ≡ says a → Asked-fits a
+      modes (Some (mode, p)) e = second mode (budget_at input p) e
+      modes None e = let z : ◌≡◌ {A = ℕ} 0 1 = cc in absurd (omega arith)
 
 -- ════ What is printed ════
 
@@ -158,10 +150,10 @@ module _ (message literals : List ℕ) (h : length message ≤ message_bytes) (g
       (omega (
         arith,
         number_lines_most a,
-        value_line_most a.value0,
-        value_line_most a.value1,
-        value_line_most a.value2,
-        value_line_most a.value3,
+        value_line_most (get_or a.values 0 Val.Absent),
+        value_line_most (get_or a.values 1 Val.Absent),
+        value_line_most (get_or a.values 2 Val.Absent),
+        value_line_most (get_or a.values 3 Val.Absent),
       ))
 
 pub text_most : (input : List ℕ) → length (console_text input) ≤ output_bytes

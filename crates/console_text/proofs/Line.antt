@@ -1,4 +1,5 @@
 -- The plain meaning of the console's input, its second half: the line that is told of an input is the first that no right input has there. Assumes nothing.
+use Rattle.std.specs.Prelude.{Option, Some, None, Ok, Err}
 use mathlib.Core.Path.{◌≡◌, refl, sym, ap, ◌∙◌, subst}
 use mathlib.Core.List.{List, [], ◌++◌}
 use Prim.Native.Nat.{ℕ, suc, ◌<◌}
@@ -8,22 +9,15 @@ use lib.ListN.{drop}
 use Rattle.laws.specs.Below.{AllBelow}
 use Rattle.grammar.specs.declared.Mode.{Mode}
 use Rattle.grammar.specs.declared.Mode.TheVariants.{Bench, Display}
-use Rattle.text.specs.declared.Number.{Number}
-use Rattle.text.specs.declared.Number.TheVariants as N
-use Rattle.text.specs.declared.Bytes.{Bytes}
-use Rattle.text.specs.declared.Bytes.TheVariants as B
 use Rattle.text.specs.Stored.{Taken}
-use Rattle.text.specs.Found.{on_number, on_bytes}
-use Rattle.listing.specs.declared.reader.Lines.{Lines}
-use Rattle.listing.specs.declared.reader.Lines.TheVariants as L
+use Rattle.text.specs.Found.{on_number}
+use Rattle.listing.specs.Reading.{Lines}
 use Rattle.listing.specs.Listing.{listing}
 use Rattle.listing.specs.Plain.{first_lines, IsListing}
 use Rattle.listing.specs.Plain as Listing
 use Rattle.listing.proofs.FirstLines.{Whole, inside, decimal_line, hex_line}
-use Rattle.listing.proofs.Stopping.{Line-then, Some, some_line, same_wrong, one_first, Told, stops_here, told_after}
+use Rattle.listing.proofs.Stopping.{Line-then, SomeText, some_line, same_wrong, one_first, Told, stops_here, told_after}
 use Rattle.listing.proofs.RightLines.{some_listing}
-use Rattle.console_text.specs.declared.request.ModeLine.{ModeLine}
-use Rattle.console_text.specs.declared.request.ModeLine.TheVariants as M
 use Rattle.console_text.specs.Asked.{budget_key, message_key, Said, says, wrong_line, on_said, on_mode, Table, Asked, mode_line, budget_at, message_at, table_at, from_fourth, from_third, from_second, said}
 use Rattle.console_text.specs.Printed.{number_line}
 use Rattle.console_text.specs.Plain.{mode_spelt, message_spelt, spelt, Right, FirstWrong, LineExactly, Judged, is_spelt, is_wrong_at}
@@ -54,13 +48,13 @@ message_whole : (message : List ℕ) → AllBelow 256 message → Whole 1 (messa
 message_whole message r = hex_line (inside message_key refl) message
 
 -- mode bench, budget 0, an empty message
-some_third : Some FromThird
+some_third : SomeText FromThird
 some_third = some_line [] tt some_listing
 
-some_second : Some FromSecond
+some_second : SomeText FromSecond
 some_second = some_line 0 (omega arith) some_third
 
-some_first : Some FromFirst
+some_first : SomeText FromFirst
 some_first = some_line Bench tt some_second
 
 abbrev IsSpelt : List ℕ → Type 0
@@ -106,8 +100,8 @@ spelt_lines input (a, r, e) =
 -- ════ The line that is told ════
 
 abbrev line_of : {A : Type 0} → Said A → Lines
-line_of (says a) = L.At 0
-line_of (wrong_line m) = L.Wrong m
+line_of (says a) = Ok 0
+line_of (wrong_line m) = Err m
 
 module _ (input : List ℕ) where
   table_told : (f : Table → Asked) (p : ℕ) → Told IsListing (drop p input) 4 (line_of (on_said wrong_line (λ t. says (f t)) (table_at input p)))
@@ -120,31 +114,31 @@ module _ (input : List ℕ) where
   message_told : (mode : Mode) (budget p : ℕ) → Told FromThird (drop p input) 3 (line_of (from_third input mode budget p))
   message_told mode budget p = go (message_at input p).found refl
     where
-      from : Bytes → Lines
-      from s = line_of (on_bytes (wrong_line 3) (λ n q. from_fourth input mode budget (message_at input p).numbers q) s)
+      from : Option (ℕ × ℕ) → Lines
+      from s = line_of (on_number (wrong_line 3) (λ n q. from_fourth input mode budget (message_at input p).numbers q) s)
 
-      go : (s : Bytes) → (message_at input p).found ≡ s → Told FromThird (drop p input) 3 (from s)
-      go (B.Are n q) e =
+      go : (s : Option (ℕ × ℕ)) → (message_at input p).found ≡ s → Told FromThird (drop p input) 3 (from s)
+      go (Some (n, q)) e =
           let w = message_found input p n q e in
-          told_after message_whole input p q 3 (message_at input p).numbers w.all w.part (λ b t r f g. g) (from (B.Are n q))
+          told_after message_whole input p q 3 (message_at input p).numbers w.all w.part (λ b t r f g. g) (from (Some (n, q)))
           (λ h. table_told (λ t. record { mode = mode; budget = budget; message = (message_at input p).numbers; table = t }) q)
-      go B.Wrong e =
+      go None e =
           stops_here message_whole input p 3 some_third (λ m q r s.
-          let f = sym e ∙ ap (λ (x : Taken Bytes). x.found) (message_back input p q m r s) in
+          let f = sym e ∙ ap (λ (x : Taken (Option (ℕ × ℕ))). x.found) (message_back input p q m r s) in
           let z : ◌≡◌ {A = ℕ} 0 1 = cc in
           omega arith)
 
   budget_told : (mode : Mode) (p : ℕ) → Told FromSecond (drop p input) 2 (line_of (from_second input mode p))
   budget_told mode p = go (budget_at input p) refl
     where
-      from : Number → Lines
+      from : Option (ℕ × ℕ) → Lines
       from s = line_of (on_number (wrong_line 2) (λ budget q. from_third input mode budget q) s)
 
-      go : (s : Number) → budget_at input p ≡ s → Told FromSecond (drop p input) 2 (from s)
-      go (N.Is budget q) e =
+      go : (s : Option (ℕ × ℕ)) → budget_at input p ≡ s → Told FromSecond (drop p input) 2 (from s)
+      go (Some (budget, q)) e =
           let w = budget_found input p budget q e in
-          told_after budget_whole input p q 2 budget w.fits w.part (λ b t r f g. g) (from (N.Is budget q)) (λ h. message_told mode budget q)
-      go N.Wrong e =
+          told_after budget_whole input p q 2 budget w.fits w.part (λ b t r f g. g) (from (Some (budget, q))) (λ h. message_told mode budget q)
+      go None e =
           stops_here budget_whole input p 2 some_second (λ budget q r s.
           let f = sym e ∙ budget_back input p budget q r s in
           let z : ◌≡◌ {A = ℕ} 0 1 = cc in
@@ -154,13 +148,13 @@ module _ (input : List ℕ) where
   unfolding said
   mode_told = go (mode_line input) refl
     where
-      from : ModeLine → Lines
+      from : Option (Mode × ℕ) → Lines
       from s = line_of (on_mode (wrong_line 1) (λ mode p. from_second input mode p) s)
 
-      go : (s : ModeLine) → mode_line input ≡ s → Told FromFirst input 1 (from s)
-      go (M.Is mode q) e =
-          told_after mode_whole input 0 q 1 mode tt (mode_found input mode q e) (λ b t r f g. g) (from (M.Is mode q)) (λ h. budget_told mode q)
-      go M.Wrong e =
+      go : (s : Option (Mode × ℕ)) → mode_line input ≡ s → Told FromFirst input 1 (from s)
+      go (Some (mode, q)) e =
+          told_after mode_whole input 0 q 1 mode tt (mode_found input mode q e) (λ b t r f g. g) (from (Some (mode, q))) (λ h. budget_told mode q)
+      go None e =
           stops_here mode_whole input 0 1 some_first (λ mode q r s.
           let f = sym e ∙ mode_back input mode q s in
           let z : ◌≡◌ {A = ℕ} 0 1 = cc in

@@ -1,11 +1,11 @@
 -- The lines of an answer record, as they are put one after another. Assumes nothing.
 use mathlib.Core.Path.{◌≡◌, refl, sym, ap, ◌∙◌}
-use mathlib.Core.List.{List, [], ◌∷◌, ◌++◌, append_assoc}
+use mathlib.Core.List.{List, [], ◌∷◌, ◌++◌, append_assoc, append-nil}
 use mathlib.Core.Bool.{Bool, true, false}
-use Prim.Native.Nat.{ℕ}
+use Prim.Native.Nat.{ℕ, zero, suc, ◌+◌, ◌≤◌, ◌<◌}
 use native.Mathlib.Omega.{arith}
 use lib.IntN.{ℤ}
-use lib.ListN.{length}
+use lib.ListN.{length, get_or}
 use Rattle.grammar.specs.declared.Span.{Span}
 use Rattle.grammar.specs.declared.Value.{Value}
 use Rattle.grammar.specs.declared.Value.TheVariants as Val
@@ -66,12 +66,37 @@ unfolding number_lines
 number_lines_are a =
     four (number_line answer_key a.number) (number_line place_key a.place) (number_line consumed_key a.consumed) (number_line visits_key a.visits)
 
-pub value_lines_are : (message literals : List ℕ) (a : Answer)
-    → ((value_line message literals a.value0 ++ value_line message literals a.value1) ++ value_line message literals a.value2) ++ value_line message literals a.value3
-    ≡ value_lines message literals a
-unfolding value_lines
-value_lines_are message literals a =
-    four (value_line message literals a.value0) (value_line message literals a.value1) (value_line message literals a.value2) (value_line message literals a.value3)
+-- what of four lists is left from the i-th on
+unfoldable pub left_of : (ℕ → List ℕ) → ℕ → List ℕ
+left_of f zero = f 0 ++ (f 1 ++ (f 2 ++ f 3))
+left_of f (suc zero) = f 1 ++ (f 2 ++ f 3)
+left_of f (suc (suc zero)) = f 2 ++ f 3
+left_of f (suc (suc (suc zero))) = f 3
+left_of f (suc (suc (suc (suc i)))) = []
+
+pub left_one : (f : ℕ → List ℕ) (i : ℕ) → i < 4 → left_of f i ≡ f i ++ left_of f (i + 1)
+unfolding left_of
+left_one f zero h = refl
+left_one f (suc zero) h = refl
+left_one f (suc (suc zero)) h = refl
+left_one f (suc (suc (suc zero))) h = sym (append-nil (f 3))
+left_one f (suc (suc (suc (suc i)))) h = absurd (omega arith)
+
+pub left_none : (f : ℕ → List ℕ) (i : ℕ) → 4 ≤ i → left_of f i ≡ []
+unfolding left_of
+left_none f zero h = absurd (omega arith)
+left_none f (suc zero) h = absurd (omega arith)
+left_none f (suc (suc zero)) h = absurd (omega arith)
+left_none f (suc (suc (suc zero))) h = absurd (omega arith)
+left_none f (suc (suc (suc (suc i)))) h = refl
+
+-- the line of the i-th value
+abbrev pub line_at : (message literals : List ℕ) (values : List Value) → ℕ → List ℕ
+line_at message literals values i = value_line message literals (get_or values i Val.Absent)
+
+pub value_lines_are : (message literals : List ℕ) (a : Answer) → left_of (line_at message literals a.values) 0 ≡ value_lines message literals a
+unfolding left_of value_lines
+value_lines_are message literals a = refl
 
 pub answer_lines_are : (message literals : List ℕ) (a : Answer) → number_lines a ++ value_lines message literals a ≡ answer_lines message literals a
 unfolding answer_lines

@@ -1,4 +1,5 @@
 -- The whole answer on lent slices: what the parts leave is what Lent.antt says. Assumes nothing.
+use Rattle.std.specs.Prelude.{Some, None, Result, Ok, Err}
 use mathlib.Core.Path.{◌≡◌, refl, sym, ap, ◌∙◌}
 use mathlib.Core.List.{List, []}
 use mathlib.Core.Bool.{Bool, true, false, cond}
@@ -16,13 +17,11 @@ use Rattle.text.specs.Stored.{Wrote}
 use Rattle.text.specs.Written.{decimal, digits}
 use Rattle.text.proofs.Writing.{wrote_as}
 use Rattle.laws.specs.Tests.{both}
-use Rattle.console_text.specs.declared.Response.TheVariants.{Written, Short}
 use Rattle.console_text.specs.declared.request.Request.{Request}
-use Rattle.console_text.specs.declared.request.Request.TheVariants as R
 use Rattle.console_text.specs.Asked.{Said, says, wrong_line, on_said, Asked, said}
 use Rattle.console_text.specs.Printed.{answer_key, number_line, answer_lines}
 use Rattle.console_text.specs.Console.{INPUT, longest_input, answer_to, line_record, ConsoleAnswer, too_long, wrong_at, ran, console_answer, printed, console_text}
-use Rattle.console_text.specs.Lent.{message_bytes, table_words, table_literals, output_bytes, input_line_bytes, lent, Roomy, enough, room_for, Readied, readied, ready, responded, afterwards, respond}
+use Rattle.console_text.specs.Lent.{message_bytes, table_words, table_literals, output_bytes, input_line_bytes, lent, request_of, Roomy, enough, room_for, Readied, readied, ready, responded, afterwards, respond}
 use Rattle.console_text.proofs.Lengths.{text_most}
 
 -- ════ Room ════
@@ -80,17 +79,21 @@ pub record Counted (message words literals : List ℕ) (m n l : ℕ) : Type 0 wh
   pub in_words : n ≤ length words
   pub in_literals : l ≤ length literals
 
+same_request : {x y : Request} → ◌≡◌ {A = Result Request ℕ} (Ok x) (Ok y) → x ≡ y
+same_request e = cc
+
 -- what was read stands in the slices
-pub counted : (s : Said Asked) (message words literals : List ℕ) {request : Request} {message' words' literals' : List ℕ}
-    → readied request message' words' literals' ≡ ready s message words literals → (mode : Mode) (budget m n l : ℕ) → request ≡ R.Run mode budget m n l
+pub counted : (s : Said Asked) (message words literals : List ℕ) {request : Result Request ℕ} {message' words' literals' : List ℕ}
+    → readied request message' words' literals' ≡ ready s message words literals → (mode : Mode) (budget m n l : ℕ) → request ≡ Ok (request_of mode budget m n l)
     → Counted message' words' literals' m n l
 unfolding ready
 counted (says a) message words literals {request} {message'} {words'} {literals'} e mode budget m n l f =
-    let b : R.Run mode budget m n l ≡ R.Run a.mode a.budget (length a.message) (length a.table.words) (length a.table.literals) =
+    let b : Ok (request_of mode budget m n l) ≡ Ok (request_of a.mode a.budget (length a.message) (length a.table.words) (length a.table.literals)) =
     sym f ∙ ap (λ (z : Readied). z.request) e in
-    let i : m ≡ length a.message = cc in
-    let j : n ≡ length a.table.words = cc in
-    let k : l ≡ length a.table.literals = cc in
+    let same = same_request b in
+    let i : m ≡ length a.message = ap (λ (z : Request). z.message) same in
+    let j : n ≡ length a.table.words = ap (λ (z : Request). z.table.words) same in
+    let k : l ≡ length a.table.literals = ap (λ (z : Request). z.table.literals) same in
     let x : length message' ≡ length (over a.message message) = ap (λ (z : Readied). length z.message) e in
     let y : length words' ≡ length (over a.table.words words) = ap (λ (z : Readied). length z.words) e in
     let v : length literals' ≡ length (over a.table.literals literals) = ap (λ (z : Readied). length z.literals) e in
@@ -100,7 +103,7 @@ counted (says a) message words literals {request} {message'} {words'} {literals'
       in_literals = omega (arith, over_length a.table.literals literals);
     }
 counted (wrong_line x) message words literals e mode budget m n l f =
-    let b : R.Run mode budget m n l ≡ R.Line x = sym f ∙ ap (λ (z : Readied). z.request) e in
+    let b : Ok (request_of mode budget m n l) ≡ Err x = sym f ∙ ap (λ (z : Readied). z.request) e in
     let z : ◌≡◌ {A = ℕ} 0 1 = cc in
     absurd (omega arith)
 
@@ -116,12 +119,12 @@ module _ (input message words literals work output : List ℕ) where
   -- ════ A slice is too short ════
 
   too_short : room_for input (lent message words literals work output) ≡ false
-      → responded Short (lent message words literals work output) ≡ respond input (lent message words literals work output)
+      → responded None (lent message words literals work output) ≡ respond input (lent message words literals work output)
   unfolding respond
   too_short e = rw e
 
   -- for INPUT's line, and so for any other text
-  pub respond_none : length output < input_line_bytes → responded Short (lent message words literals work output) ≡ respond input (lent message words literals work output)
+  pub respond_none : length output < input_line_bytes → responded None (lent message words literals work output) ≡ respond input (lent message words literals work output)
   unfolding room_for
   respond_none h = too_short (go (ltb longest_input (length input)) (enough (length message) (length words) (length literals) (length work) (length output)) refl)
     where
@@ -132,7 +135,7 @@ module _ (input message words literals work output : List ℕ) where
       go false false e = refl
 
   pub respond_short : length input ≤ longest_input → enough (length message) (length words) (length literals) (length work) (length output) ≡ false
-      → responded Short (lent message words literals work output) ≡ respond input (lent message words literals work output)
+      → responded None (lent message words literals work output) ≡ respond input (lent message words literals work output)
   unfolding room_for
   respond_short h e = too_short (rw (le-ltb longest_input (length input) h, e))
 
@@ -142,18 +145,18 @@ module _ (input message words literals work output : List ℕ) where
   finish : {r : ℕ} {message' words' literals' work' output' : List ℕ} (x : ConsoleAnswer) → room_for input (lent message words literals work output) ≡ true
       → length (console_text input) ≤ length output → console_answer input ≡ x → Wrote output 0 (printed x) r output'
       → lent message' words' literals' work' (over (console_text input) output) ≡ afterwards x (console_text input) (lent message words literals work output)
-      → responded (Written r) (lent message' words' literals' work' output') ≡ respond input (lent message words literals work output)
+      → responded (Some r) (lent message' words' literals' work' output') ≡ respond input (lent message words literals work output)
   unfolding respond console_text
   finish {r} {message'} {words'} {literals'} {work'} {output'} x room fits e w f =
       let text : List ℕ = console_text input in
       let v : Wrote output 0 text r output' = wrote_as (ap printed (sym e)) w in
       rw room
-      (ap (λ (z : ℕ). responded (Written z) (lent message' words' literals' work' output')) (count_is input output fits v)
-      ∙ ap (λ (z : List ℕ). responded (Written (length text)) (lent message' words' literals' work' z)) (output_is input output fits v)
-      ∙ ap (responded (Written (length text))) (f ∙ ap (λ (z : ConsoleAnswer). afterwards z text (lent message words literals work output)) (sym e)))
+      (ap (λ (z : ℕ). responded (Some z) (lent message' words' literals' work' output')) (count_is input output fits v)
+      ∙ ap (λ (z : List ℕ). responded (Some (length text)) (lent message' words' literals' work' z)) (output_is input output fits v)
+      ∙ ap (responded (Some (length text))) (f ∙ ap (λ (z : ConsoleAnswer). afterwards z text (lent message words literals work output)) (sym e)))
 
   pub respond_input : {r : ℕ} {output' : List ℕ} → input_line_bytes ≤ length output → longest_input < length input → Wrote output 0 (number_line answer_key INPUT) r output'
-      → responded (Written r) (lent message words literals work output') ≡ respond input (lent message words literals work output)
+      → responded (Some r) (lent message words literals work output') ≡ respond input (lent message words literals work output)
   unfolding room_for console_text console_answer printed afterwards number_line decimal digits
   respond_input {r} {output'} g h w =
       let long : ltb longest_input (length input) ≡ true = lt-ltb longest_input (length input) h in
@@ -162,7 +165,7 @@ module _ (input message words literals work output : List ℕ) where
       finish too_long (rw (long, le-leb input_line_bytes (length output) g)) fits is w refl
 
   module _ (room : Roomy (length message) (length words) (length literals) (length work) (length output)) where
-    module _ (h : length input ≤ longest_input) {request : Request} {message' words' literals' : List ℕ}
+    module _ (h : length input ≤ longest_input) {request : Result Request ℕ} {message' words' literals' : List ℕ}
         (e : readied request message' words' literals' ≡ ready (said input) message words literals)
       where
         room_for_lem : room_for input (lent message words literals work output) ≡ true
@@ -176,41 +179,42 @@ module _ (input message words literals work output : List ℕ) where
         unfolding console_answer
         consoled s f = rw (le-ltb longest_input (length input) h, f)
 
-        pub respond_line : {r : ℕ} {output' : List ℕ} (n : ℕ) → request ≡ R.Line n → Wrote output 0 (answer_lines [] [] (line_record n)) r output'
-            → responded (Written r) (lent message' words' literals' work output') ≡ respond input (lent message words literals work output)
+        pub respond_line : {r : ℕ} {output' : List ℕ} (n : ℕ) → request ≡ Err n → Wrote output 0 (answer_lines [] [] (line_record n)) r output'
+            → responded (Some r) (lent message' words' literals' work output') ≡ respond input (lent message words literals work output)
         unfolding ready printed afterwards
         respond_line {r} {output'} n f w = go (said input) refl e
           where
             go : (s : Said Asked) → said input ≡ s → readied request message' words' literals' ≡ ready s message words literals
-                → responded (Written r) (lent message' words' literals' work output') ≡ respond input (lent message words literals work output)
+                → responded (Some r) (lent message' words' literals' work output') ≡ respond input (lent message words literals work output)
             go (says a) g k =
-                let b : R.Line n ≡ R.Run a.mode a.budget (length a.message) (length a.table.words) (length a.table.literals) =
+                let b : Err n ≡ Ok (request_of a.mode a.budget (length a.message) (length a.table.words) (length a.table.literals)) =
                 sym f ∙ ap (λ (z : Readied). z.request) k in
                 let z : ◌≡◌ {A = ℕ} 0 1 = cc in
                 absurd (omega arith)
             go (wrong_line x) g k =
-                let b : R.Line n ≡ R.Line x = sym f ∙ ap (λ (z : Readied). z.request) k in
+                let b : Err n ≡ Err x = sym f ∙ ap (λ (z : Readied). z.request) k in
                 let d : n ≡ x = cc in
                 finish (wrong_at x) room_for_lem fits (consoled (wrong_line x) g) (wrote_as (ap (λ (z : ℕ). answer_lines [] [] (line_record z)) d) w)
                 (ap (λ (z : Readied). lent z.message z.words z.literals work (over (console_text input) output)) k)
 
-        pub respond_run : {r : ℕ} {work' output' : List ℕ} (mode : Mode) (budget m n l : ℕ) → request ≡ R.Run mode budget m n l
+        pub respond_run : {r : ℕ} {work' output' : List ℕ} (mode : Mode) (budget m n l : ℕ) → request ≡ Ok (request_of mode budget m n l)
             → Wrote output 0 (answer_lines (take m message') (take l literals') (answer mode (take n words') (take l literals') (take m message') budget (length work))) r output'
             → work' ≡ work_after mode (take n words') (take l literals') (take m message') work
-            → responded (Written r) (lent message' words' literals' work' output') ≡ respond input (lent message words literals work output)
+            → responded (Some r) (lent message' words' literals' work' output') ≡ respond input (lent message words literals work output)
         unfolding ready printed afterwards answer_to
         respond_run {r} {work'} {output'} mode budget m n l f w u = go (said input) refl e
           where
             go : (s : Said Asked) → said input ≡ s → readied request message' words' literals' ≡ ready s message words literals
-                → responded (Written r) (lent message' words' literals' work' output') ≡ respond input (lent message words literals work output)
+                → responded (Some r) (lent message' words' literals' work' output') ≡ respond input (lent message words literals work output)
             go (says a) g k =
-                let b : R.Run mode budget m n l ≡ R.Run a.mode a.budget (length a.message) (length a.table.words) (length a.table.literals) =
+                let b : Ok (request_of mode budget m n l) ≡ Ok (request_of a.mode a.budget (length a.message) (length a.table.words) (length a.table.literals)) =
                 sym f ∙ ap (λ (z : Readied). z.request) k in
-                let c : mode ≡ a.mode = cc in
-                let d : budget ≡ a.budget = cc in
-                let i : m ≡ length a.message = cc in
-                let j : n ≡ length a.table.words = cc in
-                let p : l ≡ length a.table.literals = cc in
+                let same = same_request b in
+                let c : mode ≡ a.mode = ap (λ (z : Request). z.mode) same in
+                let d : budget ≡ a.budget = ap (λ (z : Request). z.budget) same in
+                let i : m ≡ length a.message = ap (λ (z : Request). z.message) same in
+                let j : n ≡ length a.table.words = ap (λ (z : Request). z.table.words) same in
+                let p : l ≡ length a.table.literals = ap (λ (z : Request). z.table.literals) same in
                 let message_is : take m message' ≡ a.message = ap (λ (z : Readied). take m z.message) k ∙ take_front a.message message m i in
                 let words_are : take n words' ≡ a.table.words = ap (λ (z : Readied). take n z.words) k ∙ take_front a.table.words words n j in
                 let literals_are : take l literals' ≡ a.table.literals = ap (λ (z : Readied). take l z.literals) k ∙ take_front a.table.literals literals l p in
@@ -220,6 +224,6 @@ module _ (input message words literals work output : List ℕ) where
                 (ap (λ (z : Readied). lent z.message z.words z.literals work' (over (console_text input) output)) k
                 ∙ ap (λ (z : List ℕ). lent (over a.message message) (over a.table.words words) (over a.table.literals literals) z (over (console_text input) output)) x)
             go (wrong_line x) g k =
-                let b : R.Run mode budget m n l ≡ R.Line x = sym f ∙ ap (λ (z : Readied). z.request) k in
+                let b : Ok (request_of mode budget m n l) ≡ Err x = sym f ∙ ap (λ (z : Readied). z.request) k in
                 let z : ◌≡◌ {A = ℕ} 0 1 = cc in
                 absurd (omega arith)

@@ -1,16 +1,10 @@
 -- What the console's input asks for (document 01, 'Listing and console'), line by line. Assumes nothing.
-use Rattle.std.specs.Prelude.{List, [], ◌∷◌, ℕ, drop}
+use Rattle.std.specs.Prelude.{Option, Some, None, List, [], ◌∷◌, ℕ, drop}
 use Rattle.grammar.specs.declared.Mode.{Mode}
 use Rattle.grammar.specs.declared.Mode.TheVariants.{Bench, Display}
-use Rattle.text.specs.declared.Number.{Number}
-use Rattle.text.specs.declared.Number.TheVariants as N
-use Rattle.text.specs.declared.Bytes.{Bytes}
-use Rattle.text.specs.declared.Bytes.TheVariants as B
 use Rattle.text.specs.Stored.{Taken, taking}
-use Rattle.text.specs.Found.{on_place, on_number, on_bytes, number, pairs}
+use Rattle.text.specs.Found.{on_place, on_number, number, pairs}
 use Rattle.listing.specs.Reading.{key_at, head_at, body_at, on_head, on_lines}
-use Rattle.console_text.specs.declared.request.ModeLine.{ModeLine}
-use Rattle.console_text.specs.declared.request.ModeLine.TheVariants as M
 
 -- the bytes of `mode=bench` and of `mode=display`, 'each line ended by byte 10'; of `budget=` and of `message=`
 abbrev pub bench_line : List ℕ
@@ -34,9 +28,9 @@ abbrev pub on_said : {A B : Type 0} → (ℕ → B) → (A → B) → Said A →
 on_said wrong is (says a) = is a
 on_said wrong is (wrong_line n) = wrong n
 
-abbrev pub on_mode : {A : Type 0} → A → (Mode → ℕ → A) → ModeLine → A
-on_mode wrong is (M.Is mode q) = is mode q
-on_mode wrong is M.Wrong = wrong
+abbrev pub on_mode : {A : Type 0} → A → (Mode → ℕ → A) → Option (Mode × ℕ) → A
+on_mode wrong is (Some (mode, q)) = is mode q
+on_mode wrong is None = wrong
 
 pub record Table : Type 0 where
   pub words : List ℕ
@@ -51,17 +45,17 @@ pub record Asked : Type 0 where
 
 module _ (input : List ℕ) where
   -- '`mode=` (bench or display)': the first line, and the place after it
-  unfoldable pub mode_line : ModeLine
+  unfoldable pub mode_line : Option (Mode × ℕ)
   mode_line =
-      on_place (on_place M.Wrong (λ q. M.Is Display q) (key_at input display_line 0)) (λ q. M.Is Bench q) (key_at input bench_line 0)
+      on_place (on_place None (λ q. Some (Display, q)) (key_at input display_line 0)) (λ q. Some (Bench, q)) (key_at input bench_line 0)
 
   -- 'Budget is a decimal up to 4294967295, no leading zero'
-  unfoldable pub budget_at : ℕ → Number
-  budget_at p = on_place N.Wrong (λ q. number 10 4294967295 q (drop q input)) (key_at input budget_key p)
+  unfoldable pub budget_at : ℕ → Option (ℕ × ℕ)
+  budget_at p = on_place None (λ q. number 10 4294967295 q (drop q input)) (key_at input budget_key p)
 
   -- '`message=` (hex)'; 'all hex is lower-case pairs'
-  unfoldable pub message_at : ℕ → Taken Bytes
-  message_at p = on_place (taking [] B.Wrong) (λ q. pairs 0 q (drop q input)) (key_at input message_key p)
+  unfoldable pub message_at : ℕ → Taken (Option (ℕ × ℕ))
+  message_at p = on_place (taking [] None) (λ q. pairs 0 q (drop q input)) (key_at input message_key p)
 
   -- 'and a listing', up to the input's end, whose first line is the fourth: 'LINE counts from the first line'
   abbrev pub body_said : (rules nodes literal_bytes p : ℕ) (literals : List ℕ) → Said Table
@@ -81,7 +75,7 @@ module _ (input : List ℕ) where
 
   abbrev pub from_third : Mode → (budget p : ℕ) → Said Asked
   from_third mode budget p =
-      on_bytes (wrong_line 3) (λ n q. from_fourth mode budget (message_at p).numbers q) (message_at p).found
+      on_number (wrong_line 3) (λ n q. from_fourth mode budget (message_at p).numbers q) (message_at p).found
 
   abbrev pub from_second : Mode → (p : ℕ) → Said Asked
   from_second mode p = on_number (wrong_line 2) (λ budget q. from_third mode budget q) (budget_at p)

@@ -1,12 +1,10 @@
 -- The console on lent slices: what they hold afterwards. Assumes nothing.
-use Rattle.std.specs.Prelude.{List, [], ◌∷◌, Bool, cond, ℕ, ◌≤◌, ltb, leb, length}
+use Rattle.std.specs.Prelude.{Option, Some, None, Result, Ok, Err, List, [], ◌∷◌, Bool, cond, ℕ, ◌≤◌, ltb, leb, length}
 use Rattle.laws.specs.Stores.{over}
 use Rattle.grammar.specs.Form.{every}
 use Rattle.grammar.specs.Answer.{work_words, work_after}
-use Rattle.console_text.specs.declared.Response.{Response}
-use Rattle.console_text.specs.declared.Response.TheVariants.{Written, Short}
+use Rattle.grammar.specs.declared.Mode.{Mode}
 use Rattle.console_text.specs.declared.request.Request.{Request}
-use Rattle.console_text.specs.declared.request.Request.TheVariants as R
 use Rattle.console_text.specs.Asked.{Said, says, wrong_line, Asked}
 use Rattle.console_text.specs.Console.{longest_input, ConsoleAnswer, too_long, wrong_at, ran, console_answer, console_text}
 
@@ -71,31 +69,35 @@ room_for input l =
 
 -- ════ The request ════
 
--- what reading the request answers, and what three slices hold then
+abbrev pub request_of : Mode → (budget message words literals : ℕ) → Request
+request_of mode budget message words literals =
+    record { mode = mode; budget = budget; message = message; table = record { words = words; literals = literals } }
+
+-- what reading the request answers, which may be the number of a wrong line; and what three slices hold then
 pub record Readied : Type 0 where
-  pub request : Request
+  pub request : Result Request ℕ
   pub message : List ℕ
   pub words : List ℕ
   pub literals : List ℕ
 
-abbrev pub readied : Request → (message words literals : List ℕ) → Readied
+abbrev pub readied : Result Request ℕ → (message words literals : List ℕ) → Readied
 readied request message words literals =
     record { request = request; message = message; words = words; literals = literals }
 
 -- message, words and literals of the request stand in front; a wrong line changes nothing
 unfoldable pub ready : Said Asked → (message words literals : List ℕ) → Readied
 ready (says a) message words literals =
-    readied (R.Run a.mode a.budget (length a.message) (length a.table.words) (length a.table.literals))
+    readied (Ok (request_of a.mode a.budget (length a.message) (length a.table.words) (length a.table.literals)))
     (over a.message message) (over a.table.words words) (over a.table.literals literals)
-ready (wrong_line n) message words literals = readied (R.Line n) message words literals
+ready (wrong_line n) message words literals = readied (Err n) message words literals
 
 -- ════ The whole ════
 
 pub record Responded : Type 0 where
-  pub response : Response
+  pub response : Option ℕ
   pub after : Lent
 
-abbrev pub responded : Response → Lent → Responded
+abbrev pub responded : Option ℕ → Lent → Responded
 responded response after = record { response = response; after = after }
 
 -- INPUT and LINE change the output alone
@@ -106,9 +108,9 @@ afterwards (ran a r) text l =
     lent (over a.message l.message) (over a.table.words l.words) (over a.table.literals l.literals)
     (work_after a.mode a.table.words a.table.literals a.message l.work) (over text l.output)
 
--- the text stands in the output from its start on, and its length is told; a slice that is too short is told before any text, and then nothing changes
+-- the text stands in the output from its start on, and its length is told; a slice that is too short is told before any text, by None, and then nothing changes
 unfoldable pub respond : (input : List ℕ) → Lent → Responded
 respond input l =
     cond (room_for input l)
-    (responded (Written (length (console_text input))) (afterwards (console_answer input) (console_text input) l))
-    (responded Short l)
+    (responded (Some (length (console_text input))) (afterwards (console_answer input) (console_text input) l))
+    (responded None l)

@@ -1,5 +1,5 @@
 -- How the console prints an answer record (document 01, 'Listing and console'), byte by byte. Assumes nothing.
-use Rattle.std.specs.Prelude.{List, [], ◌∷◌, ◌++◌, Bool, cond, ℕ, ℤ}
+use Rattle.std.specs.Prelude.{List, [], ◌∷◌, ◌++◌, Bool, cond, ℕ, ℤ, get_or}
 use Rattle.grammar.specs.declared.Value.{Value}
 use Rattle.grammar.specs.declared.Value.TheVariants as Val
 use Rattle.grammar.specs.declared.Answer.{Answer}
@@ -54,8 +54,9 @@ number_lines a =
 
 unfoldable pub value_lines : (message literals : List ℕ) → Answer → List ℕ
 value_lines message literals a =
-    value_line message literals a.value0
-    ++ (value_line message literals a.value1 ++ (value_line message literals a.value2 ++ value_line message literals a.value3))
+    value_line message literals (get_or a.values 0 Val.Absent)
+    ++ (value_line message literals (get_or a.values 1 Val.Absent)
+    ++ (value_line message literals (get_or a.values 2 Val.Absent) ++ value_line message literals (get_or a.values 3 Val.Absent)))
 
 unfoldable pub answer_lines : (message literals : List ℕ) → Answer → List ℕ
 answer_lines message literals a = number_lines a ++ value_lines message literals a

@@ -96,14 +96,11 @@ fn put_values<'a>(
 ) -> usize
     ensures { Wrote output.old at (value_lines message.now literals.now answer) result output.new }
 {
-    let value0 = answer.value0;
-    let value1 = answer.value1;
-    let value2 = answer.value2;
-    let value3 = answer.value3;
-    let a = put_value_line(output, at, message, literals, value0);
-    let b = put_value_line(output, a, message, literals, value1);
-    let c = put_value_line(output, b, message, literals, value2);
-    put_value_line(output, c, message, literals, value3)
+    let mut next = at;
+    for value in answer.values {
+        next = put_value_line(output, next, message, literals, value);
+    }
+    next
 }
 
 // "every other answer prints these eight lines"

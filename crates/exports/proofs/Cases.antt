@@ -5,15 +5,17 @@ use mathlib.Core.List.{List, [], ◌∷◌, map}
 use Prim.Native.Nat.{ℕ}
 use lib.IntN.{pos, negsuc}
 use lib.ListN.{replicate}
-use Rattle.grammar.specs.declared.Verdict.TheVariants as Ver
+use Rattle.std.specs.Prelude.{Ok, Err}
+use Rattle.grammar.specs.declared.Refusal.TheVariants.{Size, Field, Use, Start, Untyped, Long, Work}
+use Rattle.grammar.specs.Form.{passed}
 use Rattle.grammar.specs.declared.Answer.{Answer}
 use Rattle.grammar.specs.declared.Value.{Value}
 use Rattle.grammar.specs.declared.Value.TheVariants as Val
-use Rattle.grammar.specs.Answer.{number, place}
+use Rattle.grammar.specs.Answer.{number, place, refusal_number, refusal_place}
 use Rattle.values.specs.Words.{word_of}
 use Rattle.values.specs.Slots.{tag_of, payload_of}
-use Rattle.listing.specs.declared.Reading.TheVariants as R
-use Rattle.listing.specs.declared.Writing.TheVariants as W
+use Rattle.listing.specs.declared.Unread.TheVariants as R
+use Rattle.listing.specs.declared.Unwritten.TheVariants as W
 use Rattle.listing.specs.Answers.{reading_number, reading_place, reading_words, reading_literals, writing_number, writing_place, writing_length}
 use Rattle.exports.specs.Boundary.{verdict_word, with_record, with_reading, with_writing, part_word}
 
@@ -23,9 +25,9 @@ lent n = replicate n 9
 
 -- 'Numbers that come back': 0 passed, 1 SIZE, 2 FIELD at word 7, 3 USE of node 3, 4 START, 5 TYPE of rule 2, 6 LONG, 7 WORK
 pub verdicts :
-    map verdict_word (Ver.Passed ∷ Ver.Size ∷ Ver.Field 7 ∷ Ver.Use 3 ∷ Ver.Start ∷ Ver.Untyped 2 ∷ Ver.Long ∷ Ver.Work ∷ [])
+    map verdict_word (passed ∷ Err Size ∷ Err (Field 7) ∷ Err (Use 3) ∷ Err Start ∷ Err (Untyped 2) ∷ Err Long ∷ Err Work ∷ [])
     ≡ 0 ∷ 65536 ∷ 131079 ∷ 196611 ∷ 262144 ∷ 327682 ∷ 393216 ∷ 458752 ∷ []
-unfolding verdict_word number place
+unfolding verdict_word number place refusal_number refusal_place
 verdicts = refl
 
 abbrev text : (literal : Bool) (start length : ℕ) → Value
@@ -39,10 +41,7 @@ answer =
       place = 2;
       consumed = 3;
       visits = 4;
-      value0 = Val.Bool true;
-      value1 = Val.Integer (negsuc 2);
-      value2 = text false 5 6;
-      value3 = text true 7 8;
+      values = Val.Bool true ∷ Val.Integer (negsuc 2) ∷ text false 5 6 ∷ text true 7 8 ∷ [];
     }
 
 -- in a slice of two words more, which stay; in one of two words
@@ -54,14 +53,14 @@ records = refl
 
 -- DONE with both lengths, LINE with its number, ROOM
 pub readings :
-    map (with_reading (lent 5)) (R.Done 5 6 ∷ R.Line 7 ∷ R.Room ∷ [])
+    map (with_reading (lent 5)) (Ok (record { words = 5; literals = 6 }) ∷ Err (R.Line 7) ∷ Err R.Room ∷ [])
     ≡ (0 ∷ 0 ∷ 5 ∷ 6 ∷ 9 ∷ []) ∷ (20 ∷ 7 ∷ 0 ∷ 0 ∷ 9 ∷ []) ∷ (21 ∷ 0 ∷ 0 ∷ 0 ∷ 9 ∷ []) ∷ []
 unfolding with_reading reading_number reading_place reading_words reading_literals
 readings = refl
 
 -- DONE with its length, SIZE, OUT
 pub writings :
-    map (with_writing (lent 5)) (W.Done 5 ∷ W.Size ∷ W.Out ∷ [])
+    map (with_writing (lent 5)) (Ok 5 ∷ Err W.Size ∷ Err W.Out ∷ [])
     ≡ (0 ∷ 0 ∷ 5 ∷ 0 ∷ 9 ∷ []) ∷ (1 ∷ 0 ∷ 0 ∷ 0 ∷ 9 ∷ []) ∷ (22 ∷ 0 ∷ 0 ∷ 0 ∷ 9 ∷ []) ∷ []
 unfolding with_writing writing_number writing_place writing_length
 writings = refl

@@ -1,13 +1,14 @@
 -- What crosses the boundary to C and Rust: numbers, and words of lent slices; a word past a slice's end is not stored. Assumes nothing.
 use Rattle.std.specs.Prelude.{List, cond, ℕ, ◌+◌, ◌*◌, leb, set}
-use Rattle.grammar.specs.declared.Verdict.{Verdict}
+use Rattle.grammar.specs.Form.{Verdict}
 use Rattle.grammar.specs.declared.Answer.{Answer}
 use Rattle.grammar.specs.declared.Value.{Value}
 use Rattle.grammar.specs.declared.Value.TheVariants as Val
 use Rattle.grammar.specs.Answer.{number, place}
+use Rattle.grammar.specs.Demand.{value_at}
 use Rattle.values.specs.Slots.{with_slot}
-use Rattle.listing.specs.declared.Reading.{Reading}
-use Rattle.listing.specs.declared.Writing.{Writing}
+use Rattle.listing.specs.Reading.{Reading}
+use Rattle.listing.specs.Writing.{Writing}
 use Rattle.listing.specs.Answers.{reading_number, reading_place, reading_words, reading_literals, writing_number, writing_place, writing_length}
 
 -- the version of all this: one more wherever a function's parameters, an answer's words or the meaning of a number change
@@ -22,10 +23,10 @@ verdict_word v = number v * 65536 + place v
 unfoldable pub with_record : List ℕ → Answer → List ℕ
 with_record words a =
     let head = set (set (set (set words 0 a.number) 1 a.place) 2 a.consumed) 3 a.visits in
-    with_slot (with_slot (with_slot (with_slot head 2 a.value0) 3 a.value1) 4 a.value2) 5 a.value3
+    with_slot (with_slot (with_slot (with_slot head 2 (value_at a 0)) 3 (value_at a 1)) 4 (value_at a 2)) 5 (value_at a 3)
 
 -- four words in a row
-abbrev pub with_four : List ℕ → (a b c d : ℕ) → List ℕ
+abbrev pub with_four : {T : Type 0} → List T → (a b c d : T) → List T
 with_four words a b c d = set (set (set (set words 0 a) 1 b) 2 c) 3 d
 
 -- the listing reader's answer: number, line, words, literals

@@ -4,22 +4,25 @@ use mathlib.Core.Bool.{Bool, true, false, not, beq}
 use mathlib.Core.List.{List}
 use Prim.Native.Nat.{ℕ, zero, suc, ◌+◌, ◌*◌, ◌-◌, ◌/◌, ◌%◌, ◌<◌, ◌≤◌}
 use native.Mathlib.Omega.{arith}
-use borrow.Author.Tests.{ne_eqb, le-ltb, eqb-true, eqb-false}
+use borrow.Author.Tests.{ne_eqb, le-ltb, leb-true, eqb-true, eqb-false}
 use lib.Dec.{eqb}
-use lib.IntN.{ℤ}
+use lib.IntN.{ℤ, pos, negsuc}
 use lib.ListN.{get_or, length, take, length-take}
 use mir.Syntax.{w32}
 use mir.Val.{SFits, bool_byte}
 use Rattle.laws.specs.Tests.{never}
+use Rattle.grammar.specs.declared.Arithmetic.{Arithmetic}
+use Rattle.grammar.specs.declared.Arithmetic.TheVariants.{Add, Subtract, Multiply, Divide}
+use Rattle.grammar.specs.declared.Operator.{Operator}
+use Rattle.grammar.specs.declared.Operator.TheVariants.{Calculate, Equal, Greater, And, Or}
 use Rattle.grammar.specs.declared.Fault.{Fault}
 use Rattle.grammar.specs.declared.Fault.TheVariants.{Overflow, ZeroDivisor}
-use Rattle.grammar.specs.declared.Number.{Number}
-use Rattle.grammar.specs.declared.Number.TheVariants.{Is, Not}
+use Rattle.std.specs.Prelude.{Ok, Err}
 use Rattle.grammar.specs.declared.Span.{Span}
 use Rattle.grammar.specs.declared.Value.{Value}
 use Rattle.grammar.specs.declared.Value.TheVariants as Val
 use Rattle.grammar.specs.Run.{Slots}
-use Rattle.grammar.specs.Values.{Evaluated, value, after, stuck, truth, number_at, present, want_integer, want_bool, want_text, integers, same_integer, same_texts, equal, operate, negated}
+use Rattle.grammar.specs.Values.{Number, signed32, fitting, quotient, calculated, Evaluated, value, after, stuck, truth, number_at, present, want_integer, want_bool, want_text, integers, same_integer, same_texts, equal, negated}
 use Rattle.values.specs.Slots.{value_of, slot_at}
 use Rattle.values.specs.Words.{word_of, integer_of}
 use Rattle.values.proofs.Complement.{signed_is, integer_word}
@@ -124,63 +127,45 @@ equal_none m l k vt vp w = by_number (λ t. (t ≡ 2 → ⊥) → (t ≡ 1 → �
     (λ a b c. refl) (λ a b c. absurd (b refl)) (λ a b c. absurd (a refl)) (λ a b c. never (sym c)) (λ a b c. never (sym c)) (λ a b c. refl) (λ a b c. refl) (λ a b c. refl)
     (λ n a b c. refl) vt
 
--- ════ Operators by number ════
+-- ════ Operators ════
 
-pub not_of_integers : (j k : ℕ) (a b : ℤ) → (j ≡ 0 → ⊥) → (j ≡ 1 → ⊥) → (j ≡ 2 → ⊥) → (j ≡ 3 → ⊥) → (j ≡ 5 → ⊥) → stuck k ≡ of_integers (operator_of j) k a b
-unfolding operator_of of_integers
-not_of_integers j k a b = by_number (λ i. (i ≡ 0 → ⊥) → (i ≡ 1 → ⊥) → (i ≡ 2 → ⊥) → (i ≡ 3 → ⊥) → (i ≡ 5 → ⊥) → stuck k ≡ of_integers (operator_of i) k a b)
-    (λ n0 n1 n2 n3 n5. absurd (n0 refl)) (λ n0 n1 n2 n3 n5. absurd (n1 refl)) (λ n0 n1 n2 n3 n5. absurd (n2 refl)) (λ n0 n1 n2 n3 n5. absurd (n3 refl)) (λ n0 n1 n2 n3 n5. refl)
-    (λ n0 n1 n2 n3 n5. absurd (n5 refl)) (λ n0 n1 n2 n3 n5. refl) (λ n0 n1 n2 n3 n5. refl) (λ n n0 n1 n2 n3 n5. refl) j
+-- past the numbers of the others
+pub operator_or : (j : ℕ) → (j ≡ 0 → ⊥) → (j ≡ 1 → ⊥) → (j ≡ 2 → ⊥) → (j ≡ 3 → ⊥) → (j ≡ 4 → ⊥) → (j ≡ 5 → ⊥) → (j ≡ 6 → ⊥) → Or ≡ operator_of j
+unfolding operator_of
+operator_or j = by_number (λ i. (i ≡ 0 → ⊥) → (i ≡ 1 → ⊥) → (i ≡ 2 → ⊥) → (i ≡ 3 → ⊥) → (i ≡ 4 → ⊥) → (i ≡ 5 → ⊥) → (i ≡ 6 → ⊥) → Or ≡ operator_of i)
+    (λ n0 n1 n2 n3 n4 n5 n6. absurd (n0 refl)) (λ n0 n1 n2 n3 n4 n5 n6. absurd (n1 refl)) (λ n0 n1 n2 n3 n4 n5 n6. absurd (n2 refl)) (λ n0 n1 n2 n3 n4 n5 n6. absurd (n3 refl))
+    (λ n0 n1 n2 n3 n4 n5 n6. absurd (n4 refl)) (λ n0 n1 n2 n3 n4 n5 n6. absurd (n5 refl)) (λ n0 n1 n2 n3 n4 n5 n6. absurd (n6 refl)) (λ n0 n1 n2 n3 n4 n5 n6. refl)
+    (λ n n0 n1 n2 n3 n4 n5 n6. refl) j
 
-module _ (m l : List ℕ) (k : ℕ) where
-  -- arithmetic and greater
-  on_integers : (j : ℕ) (v w : Value) → (j ≡ 4 → ⊥) → j < 6 → integers k v w (of_integers (operator_of j) k) ≡ operate m l (operator_of j) k v w
-  unfolding operator_of operate of_integers
-  on_integers j v w = by_number (λ i. (i ≡ 4 → ⊥) → i < 6 → integers k v w (of_integers (operator_of i) k) ≡ operate m l (operator_of i) k v w)
-      (λ a h. refl) (λ a h. refl) (λ a h. refl) (λ a h. refl) (λ a h. absurd (a refl)) (λ a h. refl) (λ a h. absurd (omega arith)) (λ a h. absurd (omega arith))
-      (λ n a h. absurd (omega arith)) j
+-- an operator that is none of these takes no Integers, or takes others too
+pub not_of_integers : (op : Operator) (k : ℕ) (a b : ℤ) → ((how : Arithmetic) → op ≡ Calculate how → ⊥) → (op ≡ Greater → ⊥) → stuck k ≡ of_integers op k a b
+unfolding of_integers
+not_of_integers (Calculate how) k a b p q = absurd (p how refl)
+not_of_integers Equal k a b p q = refl
+not_of_integers Greater k a b p q = absurd (q refl)
+not_of_integers And k a b p q = refl
+not_of_integers Or k a b p q = refl
 
-  -- and, or
-  on_bool : (j : ℕ) (v w : Value) → 6 ≤ j → want_bool k w truth ≡ operate m l (operator_of j) k v w
-  unfolding operator_of operate
-  on_bool j v w = by_number (λ i. 6 ≤ i → want_bool k w truth ≡ operate m l (operator_of i) k v w)
-      (λ h. absurd (omega arith)) (λ h. absurd (omega arith)) (λ h. absurd (omega arith)) (λ h. absurd (omega arith)) (λ h. absurd (omega arith)) (λ h. absurd (omega arith)) (λ _. refl) (λ _. refl) (λ n _. refl) j
+module _ (k vt vp wt wp : ℕ) (f : ℤ → ℤ → Evaluated Value) where
+  pub two_integers : integer_tags vt wt ≡ true → f (integer_of vp) (integer_of wp) ≡ integers k (value_of vt vp) (value_of wt wp) f
+  unfolding value_of
+  two_integers both = by_left (eqb vt 2) refl
+    where
+      by_left : (t : Bool) → eqb vt 2 ≡ t → f (integer_of vp) (integer_of wp) ≡ integers k (value_of vt vp) (value_of wt wp) f
+      by_left true e = rw (eqb-true vt 2 e, eqb-true wt 2 (rw e at both))
+      by_left false e = never (rw e at both)
 
-  -- every operator but equal, at two Integers
-  at_integers : (j : ℕ) (a b : ℤ) → (j ≡ 4 → ⊥) → of_integers (operator_of j) k a b ≡ operate m l (operator_of j) k (Val.Integer a) (Val.Integer b)
-  unfolding operator_of operate of_integers
-  at_integers j a b = by_number (λ i. (i ≡ 4 → ⊥) → of_integers (operator_of i) k a b ≡ operate m l (operator_of i) k (Val.Integer a) (Val.Integer b))
-      (λ _. refl) (λ _. refl) (λ _. refl) (λ _. refl) (λ other. absurd (other refl)) (λ _. refl) (λ _. refl) (λ _. refl) (λ n _. refl) j
+  pub not_two_integers : integer_tags vt wt ≡ false → stuck k ≡ integers k (value_of vt vp) (value_of wt wp) f
+  unfolding value_of
+  not_two_integers off = by_left (eqb vt 2) refl
+    where
+      by_left : (t : Bool) → eqb vt 2 ≡ t → stuck k ≡ integers k (value_of vt vp) (value_of wt wp) f
+      by_left true e = rw (eqb-true vt 2 e) (no_integer k wt wp (f (integer_of vp)) (eqb-false wt 2 (rw e at off)))
+      by_left false e = no_integer k vt vp _ (eqb-false vt 2 e)
 
-  pub operate_equal : {j : ℕ} (v w : Value) → j ≡ 4 → equal m l k v w ≡ operate m l (operator_of j) k v w
-  unfolding operator_of operate
-  operate_equal v w e = rw e
-
-  pub operate_bool : (j : ℕ) (v : Value) (wt wp : ℕ) → 6 ≤ j → wt ≡ 1 → given_of 1 wp ≡ operate m l (operator_of j) k v (value_of wt wp)
-  unfolding given_of value_of
-  operate_bool j v wt wp h e = rw e (on_bool j v (Val.Bool (eqb wp 1)) h)
-
-  pub operate_no_bool : (j : ℕ) (v : Value) (wt wp : ℕ) → 6 ≤ j → (wt ≡ 1 → ⊥) → stuck k ≡ operate m l (operator_of j) k v (value_of wt wp)
-  operate_no_bool j v wt wp h e = no_bool k wt wp truth e ∙ on_bool j v (value_of wt wp) h
-
-  module _ (j vt vp wt wp : ℕ) (other : j ≡ 4 → ⊥) where
-    pub operate_integers : integer_tags vt wt ≡ true → of_integers (operator_of j) k (integer_of vp) (integer_of wp) ≡ operate m l (operator_of j) k (value_of vt vp) (value_of wt wp)
-    unfolding value_of
-    operate_integers both = by_left (eqb vt 2) refl
-      where
-        by_left : (t : Bool) → eqb vt 2 ≡ t → of_integers (operator_of j) k (integer_of vp) (integer_of wp) ≡ operate m l (operator_of j) k (value_of vt vp) (value_of wt wp)
-        by_left true e = rw (eqb-true vt 2 e, eqb-true wt 2 (rw e at both)) (at_integers j (integer_of vp) (integer_of wp) other)
-        by_left false e = never (rw e at both)
-
-    pub operate_others : j < 6 → integer_tags vt wt ≡ false → stuck k ≡ operate m l (operator_of j) k (value_of vt vp) (value_of wt wp)
-    unfolding value_of
-    operate_others below off = by_left (eqb vt 2) refl
-      where
-        by_left : (t : Bool) → eqb vt 2 ≡ t → stuck k ≡ operate m l (operator_of j) k (value_of vt vp) (value_of wt wp)
-        by_left true e =
-            rw (eqb-true vt 2 e)
-            (no_integer k wt wp (of_integers (operator_of j) k (integer_of vp)) (eqb-false wt 2 (rw e at off)) ∙ on_integers j (Val.Integer (integer_of vp)) (value_of wt wp) other below)
-        by_left false e = no_integer k vt vp _ (eqb-false vt 2 e) ∙ on_integers j (value_of vt vp) (value_of wt wp) other below
+pub right_bool : (k wp : ℕ) {wt : ℕ} → wt ≡ 1 → given_of 1 wp ≡ want_bool k (value_of wt wp) truth
+unfolding given_of value_of
+right_bool k wp e = rw e
 
 pub negated_bool : (k payload : ℕ) {tag : ℕ} → tag ≡ 1 → truth (not (eqb payload 1)) ≡ negated k (value_of tag payload)
 unfolding value_of negated
@@ -258,15 +243,37 @@ unfolding given_of
 truth_is true = refl
 truth_is false = refl
 
+signed_fits : (x : ℤ) → signed32 x ≡ true → SFits w32 x
+signed_fits (pos n) h = record { sfits = omega (arith, leb-true n 2147483647 h) }
+signed_fits (negsuc n) h = record { sfits = omega (arith, leb-true (n + 1) 2147483648 h) }
+
+fitting_fits : (x z : ℤ) → fitting x ≡ Ok z → SFits w32 z
+unfolding fitting
+fitting_fits x z h = by_test (signed32 x) refl
+  where
+    by_test : (t : Bool) → signed32 x ≡ t → SFits w32 z
+    by_test true e = let same : x ≡ z = cc (rw e at h) in rw (← same) (signed_fits x e)
+    by_test false e = let z : ◌≡◌ {A = ℕ} 0 1 = cc (rw e at h) in absurd (omega arith)
+
+-- a number that an operator gives is a 32-bit one
+pub calculated_fits : (op : Arithmetic) (a b z : ℤ) → calculated op a b ≡ Ok z → SFits w32 z
+unfolding calculated quotient
+calculated_fits Add a b z h = fitting_fits _ z h
+calculated_fits Subtract a b z h = fitting_fits _ z h
+calculated_fits Multiply a b z h = fitting_fits _ z h
+calculated_fits Divide a (pos zero) z h = let z : ◌≡◌ {A = ℕ} 0 1 = cc in absurd (omega arith)
+calculated_fits Divide a (pos (suc b)) z h = fitting_fits _ z h
+calculated_fits Divide a (negsuc b) z h = fitting_fits _ z h
+
 module _ (k : ℕ) where
-  pub number_is : (z : ℤ) → SFits w32 z → {n : Number} {p : ℕ} → n ≡ Is z → p ≡ word_of z → given_of 2 p ≡ number_at k n
+  pub number_is : (z : ℤ) → SFits w32 z → {n : Number} {p : ℕ} → n ≡ Ok z → p ≡ word_of z → given_of 2 p ≡ number_at k n
   unfolding given_of
   number_is z f e q = rw (e, q, integer_word z f)
 
-  pub number_overflow : k < 65536 → {n : Number} {why : Fault} → n ≡ Not why → why ≡ Overflow → given_of 6 k ≡ number_at k n
+  pub number_overflow : k < 65536 → {n : Number} {why : Fault} → n ≡ Err why → why ≡ Overflow → given_of 6 k ≡ number_at k n
   unfolding given_of
   number_overflow h e f = let s : k % 65536 ≡ k = omega arith in rw (e, f, s)
 
-  pub number_zero_divisor : k < 65536 → {n : Number} {why : Fault} → n ≡ Not why → why ≡ ZeroDivisor → given_of 7 k ≡ number_at k n
+  pub number_zero_divisor : k < 65536 → {n : Number} {why : Fault} → n ≡ Err why → why ≡ ZeroDivisor → given_of 7 k ≡ number_at k n
   unfolding given_of
   number_zero_divisor h e f = let s : k % 65536 ≡ k = omega arith in rw (e, f, s)

@@ -1,14 +1,19 @@
 -- What follows from the promise of `evaluate`: two answers that it allows are one. Assumes nothing.
-use mathlib.Core.Path.{◌≡◌}
+use mathlib.Core.Path.{◌≡◌, ap}
 use Prim.Native.Nat.{ℕ}
 use native.Mathlib.Omega.{arith}
-use Rattle.expressions.specs.declared.Evaluated.{Evaluated}
-use Rattle.expressions.specs.declared.Evaluated.TheVariants.{Is, Ends}
+use Rattle.std.specs.Prelude.{Result, Ok, Err}
+use Rattle.grammar.specs.declared.Ended.{Ended}
+use Rattle.grammar.specs.declared.Ending.{Ending}
+use Rattle.grammar.specs.declared.Value.{Value}
 use Rattle.expressions.specs.Meant.{meant}
 
-pub one_answer : (x y : Evaluated) → meant x ≡ meant y → x ≡ y
+abbrev ended : Ending → ℕ → Ended
+ended why k = record { why = why; node = k }
+
+pub one_answer : (x y : Result Value Ended) → meant x ≡ meant y → x ≡ y
 unfolding meant
-one_answer (Is v) (Is w) h = cc
-one_answer (Is v) (Ends why k) h = let z : ◌≡◌ {A = ℕ} 0 1 = cc in absurd (omega arith)
-one_answer (Ends why j) (Is v) h = let z : ◌≡◌ {A = ℕ} 0 1 = cc in absurd (omega arith)
-one_answer (Ends why j) (Ends why' k) h = cc
+one_answer (Ok v) (Ok w) h = cc
+one_answer (Ok v) (Err e) h = let z : ◌≡◌ {A = ℕ} 0 1 = cc in absurd (omega arith)
+one_answer (Err e) (Ok v) h = let z : ◌≡◌ {A = ℕ} 0 1 = cc in absurd (omega arith)
+one_answer (Err e) (Err f) h = let same : ended e.why e.node ≡ ended f.why f.node = cc in ap Err same

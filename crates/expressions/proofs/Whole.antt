@@ -1,15 +1,12 @@
 -- The whole walk over an expression: what it needs to go on, and what it gives when it rests. Assumes nothing.
 use mathlib.Core.Path.{◌≡◌, refl, sym, ◌∙◌}
 use mathlib.Core.Bool.{Bool, true, false}
-use mathlib.Core.Logic.{⊎_elim}
-use mathlib.Core.List.{List}
-use Prim.Native.Nat.{ℕ, ◌+◌, ◌-◌, ◌<◌, ◌≤◌}
-use native.Mathlib.Nat.{eq-or-lt_of_le}
+use mathlib.Core.List.{List, ◌++◌}
+use Prim.Native.Nat.{ℕ, ◌-◌, ◌<◌, ◌≤◌}
 use native.Mathlib.Omega.{arith}
 use borrow.Author.Tests.{leb-true, leb-false, ltb-true, ltb-false}
 use lib.Dec.{leb}
-use lib.ListN.{get_or, set, length}
-use lib.Seq.{get_or-set_same, get_or-set_other}
+use lib.ListN.{length, get_or-append}
 use Rattle.laws.specs.Pile.{Alike, comes_to, through, through_alike, unmoved}
 use Rattle.laws.specs.Tests.{never}
 use Rattle.grammar.specs.declared.Value.{Value}
@@ -93,10 +90,6 @@ module _ (A : Asked) where
 pub none_filled : (levels : ℕ) (pile : List ℕ) → Filled levels pile 0
 none_filled levels pile = record { room = omega arith; each = λ i h. absurd (omega arith) }
 
--- into a longer one
-pub alike_more : (pile longer : List ℕ) (i : ℕ) → Alike i pile longer → i < length longer → Alike (i + 1) pile (set longer i (get_or pile i 0))
-alike_more pile longer i alike fits j h =
-    ⊎_elim
-    (λ (e : j ≡ i). rw e (get_or-set_same longer i (get_or pile i 0) 0 fits))
-    (λ (l : j < i). get_or-set_other longer i j (get_or pile i 0) 0 (λ e. omega arith) ∙ alike j l)
-    (eq-or-lt_of_le (let g : j ≤ i = omega arith in g))
+-- put before others
+pub alike_before : (pile others : List ℕ) {put : List ℕ} → put ≡ pile → Alike (length pile) pile (put ++ others)
+alike_before pile others {put} e i h = rw e (get_or-append pile others 0 i h)

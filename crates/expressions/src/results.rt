@@ -1,18 +1,17 @@
 // Results in two words, and what leaves and operators give.
 ghost use Rattle.std.specs.Prelude.{◌≡◌, ◌<◌, take};
-ghost use Rattle.grammar.specs.Values.{number_at, present, equal, operate, negated};
+ghost use Rattle.grammar.specs.Values.{integers, number_at, present, equal, operate, negated, want_bool};
 ghost use Rattle.grammar.specs.Values as written;
 ghost use Rattle.values.specs.Slots.{slots_of, slot_at};
 ghost use Rattle.expressions.specs.Meant.{meant, of_integers};
 ghost use Rattle.expressions.specs.Given.{given, held, operator_of, leaf_of, is_text, both_integers, span_in};
 
-use crate::Evaluated;
-use grammar::{Arithmetic, Ending, Fault, Number, Span};
+use grammar::{Arithmetic, Ended, Ending, Fault, Operator, Span, Value};
 use values::slots::value_of;
 use values::words::{integer_of, word_of};
 
 // A result in two words: a value's tag and payload as in a slot; or, from tag 5 on, why the run ends, and the node. (In 64 bits together the compiler would keep the two in one
-// register, and take them apart at each use: hence the wide tag.)
+// register, and take them apart at each use: hence the wide tag. A Result<Value, Ended> here takes 4 % more instructions a visit of (d) in docs/SPEED.md, and 3 % more of (c).)
 #[derive(Clone, Copy)]
 pub struct Given {
     pub tag: u64,
@@ -24,7 +23,7 @@ pub(crate) fn truth(b: bool) -> Given
 {
     Given {
         tag: 1,
-        payload: b as u32,
+        payload: u32::from(b),
     }
 }
 
@@ -33,7 +32,7 @@ pub(crate) fn stuck(k: u16) -> Given
 {
     Given {
         tag: 5,
-        payload: k as u32,
+        payload: u32::from(k),
     }
 }
 
@@ -44,7 +43,7 @@ fn slot_given(slots: &[u32], s: u16, k: u16) -> Given
     if 16 <= s {
         return stuck(k);
     }
-    let at = 2 * s as usize;
+    let at = 2 * usize::from(s);
     if slots.len() <= at + 1 {
         return stuck(k);
     }
@@ -56,7 +55,7 @@ fn slot_given(slots: &[u32], s: u16, k: u16) -> Given
         return stuck(k);
     }
     Given {
-        tag: tag as u64,
+        tag: u64::from(tag),
         payload: slots[at + 1],
     }
 }
@@ -77,43 +76,46 @@ pub(crate) fn leaf(slots: &[u32], kind: u16, k: u16, a: u16, b: u16) -> Given
         };
     }
     Given {
-        tag: 2 * (kind as u64 - 16),
-        payload: a as u32 * 65536 + b as u32,
+        tag: 2 * (u64::from(kind) - 16),
+        payload: u32::from(a) * 65536 + u32::from(b),
     }
 }
 
-fn number_given(n: Number, k: u16) -> Given
-    ensures { given result ≡ number_at k n }
+// An operator that takes two Integers, of node k.
+fn calculated(op: Arithmetic, k: u16, a: i32, b: i32) -> Given
+    ensures { given result ≡ number_at k (written.calculated op a b) }
 {
-    match n {
-        Number::Is(z) => Given {
+    match values::numbers::calculate(op, a, b) {
+        Ok(z) => Given {
             tag: 2,
             payload: word_of(z),
         },
-        Number::Not(why) => match why {
+        Err(why) => match why {
             Fault::Overflow => Given {
                 tag: 6,
-                payload: k as u32,
+                payload: u32::from(k),
             },
             Fault::ZeroDivisor => Given {
                 tag: 7,
-                payload: k as u32,
+                payload: u32::from(k),
             },
         },
     }
 }
 
-// Operator j, of node k, at two Integers.
-fn integers_given(j: u8, k: u16, a: i32, b: i32) -> Given
-    ensures { given result ≡ of_integers (operator_of j) k a b }
+// The operators of kinds 20 to 27, from 0 on: on the pile an operator is its number.
+pub(crate) fn operator(j: u8) -> Operator
+    ensures { result ≡ operator_of j }
 {
     match j {
-        0 => number_given(values::numbers::calculate(Arithmetic::Add, a, b), k),
-        1 => number_given(values::numbers::calculate(Arithmetic::Subtract, a, b), k),
-        2 => number_given(values::numbers::calculate(Arithmetic::Multiply, a, b), k),
-        3 => number_given(values::numbers::calculate(Arithmetic::Divide, a, b), k),
-        5 => truth(values::numbers::greater(a, b)),
-        _ => stuck(k),
+        0 => Operator::Calculate(Arithmetic::Add),
+        1 => Operator::Calculate(Arithmetic::Subtract),
+        2 => Operator::Calculate(Arithmetic::Multiply),
+        3 => Operator::Calculate(Arithmetic::Divide),
+        4 => Operator::Equal,
+        5 => Operator::Greater,
+        6 => Operator::And,
+        _ => Operator::Or,
     }
 }
 
@@ -165,35 +167,56 @@ fn equal_given<'a>(message: &'a [u8], literals: &'a [u8], k: u16, v: Given, w: G
 fn both_integers(v: Given, w: Given) -> bool
     ensures { result ≡ both_integers v w }
 {
-    if v.tag == 2 { w.tag == 2 } else { false }
+    v.tag == 2 && w.tag == 2
 }
 
-// Operator j, of node k: "types are looked at after the operands".
+// An operator that takes two Integers.
+fn integers_given(op: Operator, k: u16, v: Given, w: Given) -> Given
+    ensures { given result ≡ integers k (held v) (held w) (of_integers op k) }
+{
+    if !both_integers(v, w) {
+        return stuck(k);
+    }
+    let a = integer_of(v.payload);
+    let b = integer_of(w.payload);
+    match op {
+        Operator::Calculate(how) => calculated(how, k, a, b),
+        Operator::Greater => truth(values::numbers::greater(a, b)),
+        _ => stuck(k),
+    }
+}
+
+// And, or have looked at the left value already and give the right.
+fn right_given(k: u16, w: Given) -> Given
+    ensures { given result ≡ want_bool k (held w) written.truth }
+{
+    if w.tag == 1 {
+        Given {
+            tag: 1,
+            payload: w.payload,
+        }
+    } else {
+        stuck(k)
+    }
+}
+
+// An operator of node k: "types are looked at after the operands".
 pub(crate) fn operate_given<'a>(
     message: &'a [u8],
     literals: &'a [u8],
-    j: u8,
+    op: Operator,
     k: u16,
     v: Given,
     w: Given,
 ) -> Given
-    ensures { given result ≡ operate message.now literals.now (operator_of j) k (held v) (held w) }
+    ensures { given result ≡ operate message.now literals.now op k (held v) (held w) }
 {
-    if j == 4 {
-        return equal_given(message, literals, k, v, w);
-    }
-    if both_integers(v, w) {
-        return integers_given(j, k, integer_of(v.payload), integer_of(w.payload));
-    }
-    if j < 6 {
-        return stuck(k);
-    }
-    if w.tag != 1 {
-        return stuck(k);
-    }
-    Given {
-        tag: 1,
-        payload: w.payload,
+    match op {
+        Operator::Calculate(_) => integers_given(op, k, v, w),
+        Operator::Equal => equal_given(message, literals, k, v, w),
+        Operator::Greater => integers_given(op, k, v, w),
+        Operator::And => right_given(k, w),
+        Operator::Or => right_given(k, w),
     }
 }
 
@@ -208,17 +231,25 @@ pub(crate) fn negate_given(k: u16, v: Given) -> Given
 }
 
 // A result as a value, or as an end.
-pub(crate) fn evaluated(g: Given) -> Evaluated
+pub(crate) fn evaluated(g: Given) -> Result<Value, Ended>
     ensures { meant result ≡ given g }
 {
-    let tag = g.tag;
-    if tag < 5 {
-        return Evaluated::Is(value_of(tag as u32, g.payload));
+    if g.tag < 5 {
+        return Ok(value_of(g.tag as u32, g.payload));
     }
-    let k = (g.payload % 65536) as u16;
-    match tag {
-        6 => Evaluated::Ends(Ending::Fault(Fault::Overflow), k),
-        7 => Evaluated::Ends(Ending::Fault(Fault::ZeroDivisor), k),
-        _ => Evaluated::Ends(Ending::Stuck, k),
+    let node = (g.payload % 65536) as u16;
+    match g.tag {
+        6 => Err(Ended {
+            why: Ending::Fault(Fault::Overflow),
+            node,
+        }),
+        7 => Err(Ended {
+            why: Ending::Fault(Fault::ZeroDivisor),
+            node,
+        }),
+        _ => Err(Ended {
+            why: Ending::Stuck,
+            node,
+        }),
     }
 }

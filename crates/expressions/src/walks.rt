@@ -1,16 +1,18 @@
 // A walk over an expression without recursion: the operators at work stand in a pile of numbers. An operand that is a leaf gives its value at once, and its operator needs no place
 // for it. The larger functions of a step have one caller each: so the compiler lays the whole step into the loop.
 ghost use Rattle.std.specs.Prelude.{◌≡◌, true, false, ◌<◌, ◌≤◌, length};
-ghost use Rattle.laws.specs.Pile.{Alike, comes_to};
+ghost use Rattle.laws.specs.Pile.{comes_to};
 ghost use Rattle.grammar.specs.Words.{node_start};
 ghost use Rattle.expressions.specs.declared.walks.Way.TheVariants.{Left};
 ghost use Rattle.expressions.specs.Given.{given};
 ghost use Rattle.expressions.specs.Walks.{asked, came, resolved_at, walking, Steps, Filled, operator_begins, result_found, half_found, has_left, has_both, goes_on, looks_no_further, Seen, Opened, TakenUp, WithOne, WithRight, WithLeft, Turned, Resumed, Settled, Rested};
 
-use crate::results::{Given, leaf, negate_given, operate_given, stuck};
+use crate::results::{Given, leaf, negate_given, operate_given, operator, stuck};
 use table::records::{Head, head_from, node_place};
 
 // A walk over an expression, on top of so many operators at work: operator j, of node k, begins, and a and b are its operands; or a result was found.
+// (As an enum of the two, with what each has, it takes 7 % more instructions a visit of (d) in docs/SPEED.md. j is the operator's number, as on the pile: a place there is a number of eight
+// bytes, since 1,024 places of an enum with a Value in it would take 16 KB of stack by themselves.)
 #[derive(Clone, Copy)]
 pub struct Walk {
     pub begins: bool,
@@ -31,6 +33,7 @@ pub enum Way {
 }
 
 // Halfway through a step: an operator begins; a result was found, v; operator j, of node k, has its left or only value, v; or it has both, v and w.
+// (As an enum, beside a walk that is one too, it takes 14 % more instructions a visit of (d), and more than twice the time: the compiler keeps the two in memory.)
 #[derive(Clone, Copy)]
 pub struct Halfway {
     pub way: Way,
@@ -49,9 +52,9 @@ fn begun(h: Head, k: u16, top: usize) -> Walk
 {
     Walk {
         begins: true,
-        top: top,
+        top,
         j: (h.kind - 20) as u8,
-        k: k,
+        k,
         a: h.a,
         b: h.b,
         g: Given { tag: 0, payload: 0 },
@@ -63,12 +66,12 @@ fn result(g: Given, top: usize) -> Walk
 {
     Walk {
         begins: false,
-        top: top,
+        top,
         j: 0,
         k: 0,
         a: 0,
         b: 0,
-        g: g,
+        g,
     }
 }
 
@@ -77,7 +80,7 @@ fn found(g: Given, top: usize) -> Halfway
 {
     Halfway {
         way: Way::Found,
-        top: top,
+        top,
         j: 0,
         k: 0,
         a: 0,
@@ -92,12 +95,12 @@ fn has_left(j: u8, k: u16, b: u16, v: Given, top: usize) -> Halfway
 {
     Halfway {
         way: Way::Left,
-        top: top,
-        j: j,
-        k: k,
+        top,
+        j,
+        k,
         a: 0,
-        b: b,
-        v: v,
+        b,
+        v,
         w: Given { tag: 0, payload: 0 },
     }
 }
@@ -107,16 +110,17 @@ fn has_both(j: u8, k: u16, v: Given, w: Given, top: usize) -> Halfway
 {
     Halfway {
         way: Way::Both,
-        top: top,
-        j: j,
-        k: k,
+        top,
+        j,
+        k,
         a: 0,
         b: 0,
-        v: v,
-        w: w,
+        v,
+        w,
     }
 }
 
+// The words, the slots, where the records begin and the levels go through a step one by one: as fields of one struct they take 3 % more instructions a visit of (d).
 // Node k, on level n. `levels` levels are looked at; what lies deeper, or has a number that is no expression's kind, counts as false, as kind 0 does.
 fn seen(words: &[u16], first: u32, levels: usize, n: usize, k: u16) -> Head
     requires { first ≡ node_start words.now 0 }
@@ -145,12 +149,12 @@ fn put_to_work(n: usize, upper: u64, lower: u32, k: u16, h: Head, pile: &mut [u6
     requires { (n < length pile.old) × (upper < 4294967296) × (20 ≤ h.kind) × (h.kind ≤ 28) }
     ensures { Opened pile.old n upper lower k h pile.new result }
 {
-    pile[n] = upper * 4294967296 + lower as u64;
+    pile[n] = upper * 4294967296 + u64::from(lower);
     Halfway {
         way: Way::Begins,
         top: n + 1,
         j: (h.kind - 20) as u8,
-        k: k,
+        k,
         a: h.a,
         b: h.b,
         v: Given { tag: 0, payload: 0 },
@@ -172,8 +176,8 @@ fn enter(
 {
     let h = seen(words, first, levels, w.top + 1, w.a);
     if 20 <= h.kind {
-        let upper = w.j as u64 * 65536 + w.k as u64;
-        return put_to_work(w.top, upper, w.b as u32, w.a, h, pile);
+        let upper = u64::from(w.j) * 65536 + u64::from(w.k);
+        return put_to_work(w.top, upper, u32::from(w.b), w.a, h, pile);
     }
     let g = leaf(slots, h.kind, w.a, h.a, h.b);
     if 5 <= g.tag {
@@ -220,7 +224,7 @@ fn right(
     let v = s.v;
     let h = seen(words, first, levels, s.top + 1, s.b);
     if 20 <= h.kind {
-        let upper = (v.tag + 1) * 16777216 + s.j as u64 * 65536 + s.k as u64;
+        let upper = (v.tag + 1) * 16777216 + u64::from(s.j) * 65536 + u64::from(s.k);
         return put_to_work(s.top, upper, v.payload, s.b, h, pile);
     }
     let r = leaf(slots, h.kind, s.b, h.a, h.b);
@@ -275,9 +279,8 @@ fn after_left(
     requires { (first ≡ node_start words.now 0) × (s.v.tag < 5) × (s.top < length pile.old) }
     ensures { WithLeft pile.old pile.new words.now slots.now levels s.top s.j s.k s.b s.v result }
 {
-    let v = s.v;
-    if looks_no_further(s.j, v) {
-        return found(with_one(s.j, s.k, v), s.top);
+    if looks_no_further(s.j, s.v) {
+        return found(with_one(s.j, s.k, s.v), s.top);
     }
     right(words, slots, first, levels, s, pile)
 }
@@ -312,12 +315,9 @@ fn turn(
     requires { (first ≡ node_start words.now 0) × (s.way ≡ Left → (s.v.tag < 5) × (s.top < length pile.old)) }
     ensures { Turned pile.old pile.new words.now slots.now levels s result }
 {
-    let way = s.way;
-    match way {
-        Way::Begins => s,
-        Way::Found => s,
+    match s.way {
         Way::Left => after_left(words, slots, first, levels, s, pile),
-        Way::Both => s,
+        _ => s,
     }
 }
 
@@ -326,9 +326,7 @@ fn settle<'a>(literals: &'a [u8], message: &'a [u8], s: Halfway) -> Walk
     requires { s.way ≡ Left → ⊥ }
     ensures { Settled literals.now message.now s result }
 {
-    let way = s.way;
-    let v = s.v;
-    match way {
+    match s.way {
         Way::Begins => Walk {
             begins: true,
             top: s.top,
@@ -336,13 +334,13 @@ fn settle<'a>(literals: &'a [u8], message: &'a [u8], s: Halfway) -> Walk
             k: s.k,
             a: s.a,
             b: s.b,
-            g: v,
+            g: s.v,
         },
-        Way::Found => result(v, s.top),
-        Way::Left => result(v, s.top),
+        Way::Found => result(s.v, s.top),
+        Way::Left => result(s.v, s.top),
         Way::Both => {
-            let w = s.w;
-            result(operate_given(message, literals, s.j, s.k, v, w), s.top)
+            let g = operate_given(message, literals, operator(s.j), s.k, s.v, s.w);
+            result(g, s.top)
         }
     }
 }
@@ -399,16 +397,6 @@ fn walk_on<'a>(
     w
 }
 
-// A pile is put into a longer one.
-fn copied(pile: &[u64], longer: &mut [u64])
-    requires { length pile.now ≤ length longer.old }
-    ensures { Alike (length pile.now) pile.now longer.new }
-{
-    for i in 0..pile.len() {
-        longer[i] = pile[i];
-    }
-}
-
 // On with 1,024 places: as many as there are levels.
 fn walk_deeper<'a>(
     words: &[u16],
@@ -423,7 +411,7 @@ fn walk_deeper<'a>(
     ensures { given result ≡ comes_to (resolved_at (asked words.now literals.now message.now slots.now levels)) (walking (asked words.now literals.now message.now slots.now levels) pile.now w) }
 {
     let mut longer = [0u64; 1024];
-    copied(pile, &mut longer);
+    longer[..pile.len()].copy_from_slice(pile);
     let v = walk_on(words, literals, message, slots, levels, w, &mut longer);
     v.g
 }

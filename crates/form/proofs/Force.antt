@@ -49,12 +49,12 @@ module _ (words : List ℕ) (start : ℕ) where
 
   -- a place that is in use is as its sort wants it, and one that is not holds 0
   place : (bound n w : ℕ) (b : Bool) → cond b (passes words start bound n w) (eqb w 0) ≡ passes words start bound (cond b n 0) w
-  unfolding passes plain_sorts fits
+  unfolding fits
   place bound n w true = refl
   place bound n w false = refl
 
   pub fits_in_force : (bound : ℕ) (s : Sort) (w : ℕ) → fits words bound at s w ≡ passes words start bound (in_force s) w
-  unfolding passes plain_sorts fits in_force
+  unfolding fits in_force
   fits_in_force bound unused w = refl
   fits_in_force bound byte w = refl
   fits_in_force bound bit w = refl
@@ -94,37 +94,30 @@ module _ (words : List ℕ) (start : ℕ) where
   -- the sort in force of each number
   module _ (n : ℕ) where
     pub force_plain : n < 11 → n ≡ force words start n
-    unfolding force
     force_plain h = rw (lt-ltb n 11 h)
 
     pub force_kind : 11 ≤ n → n ≡ 32 → n ≡ force words start n
-    unfolding force
     force_kind low same = rw (le-ltb n 11 low, eq-eqb n 32 same)
 
     module _ (low : 11 ≤ n) (other : n ≢ 32) where
       pub force_argument : n < 15 → placed (n - 11) (inherited_count words (at 1)) 5 ≡ force words start n
-      unfolding force
       force_argument h = rw (le-ltb n 11 low, ne_eqb n 32 other, lt-ltb n 15 h)
 
       pub force_receiving : 15 ≤ n → n < 19 → placed (n - 15) (returned_count words (at 1)) 7 ≡ force words start n
-      unfolding force
       force_receiving from h = rw (le-ltb n 11 low, ne_eqb n 32 other, le-ltb n 15 from, lt-ltb n 19 h)
 
       pub force_inherited_type : 19 ≤ n → n < 23 → placed (n - 19) (at 1) 31 ≡ force words start n
-      unfolding force
       force_inherited_type from h =
           let a : 15 ≤ n = omega arith in
           rw (le-ltb n 11 low, ne_eqb n 32 other, le-ltb n 15 a, le-ltb n 19 from, lt-ltb n 23 h)
 
       pub force_returned : 23 ≤ n → n < 27 → placed (n - 23) (at 6) 5 ≡ force words start n
-      unfolding force
       force_returned from h =
           let a : 15 ≤ n = omega arith in
           let b : 19 ≤ n = omega arith in
           rw (le-ltb n 11 low, ne_eqb n 32 other, le-ltb n 15 a, le-ltb n 19 b, le-ltb n 23 from, lt-ltb n 27 h)
 
       pub force_returned_type : 27 ≤ n → placed (n - 27) (at 6) 31 ≡ force words start n
-      unfolding force
       force_returned_type from =
           let a : 15 ≤ n = omega arith in
           let b : 19 ≤ n = omega arith in
@@ -134,7 +127,7 @@ module _ (words : List ℕ) (start : ℕ) where
   -- a number that is no sort asks for 0, as 0 does
   pub passes_zero : (bound n w : ℕ) → n ≢ 1 → n ≢ 2 → n ≢ 3 → n ≢ 4 → n ≢ 5 → n ≢ 6 → n ≢ 7 → n ≢ 8 → n ≢ 9 → n ≢ 10 → n ≢ 31 → n ≢ 32
       → eqb w 0 ≡ passes words start bound n w
-  unfolding passes plain_sorts fits
+  unfolding fits
   passes_zero bound n w n1 n2 n3 n4 n5 n6 n7 n8 n9 n10 n31 n32 =
       ⊎_elim
       (λ (e : n ≡ 0). rw e)

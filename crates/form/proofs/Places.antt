@@ -26,16 +26,13 @@ module _ (words : List ℕ) {A : Type 0} (of_rule of_node : ℕ → ℕ → A) w
       rw (le-ltb i (node_start words 0) (omega arith), q, m)
 
 pub start_zero : (R : ℕ) → 3 ≡ record_start R 0
-unfolding record_start
 start_zero R = omega arith
 
 pub start_end : (R K : ℕ) → record_start R (R + K) ≡ 3 + 15 * R + 10 * K
-unfolding record_start
 start_end R K = omega arith
 
 module _ (R q : ℕ) where
   pub start_next : record_start R q + record_length R q ≡ record_start R (q + 1)
-  unfolding record_start record_length
   start_next = go (ltb q R) refl
     where
       go : (b : Bool) → ltb q R ≡ b → record_start R q + record_length R q ≡ record_start R (q + 1)
@@ -44,7 +41,6 @@ module _ (R q : ℕ) where
 
   -- a record has words, which are words of the table
   pub record_in : (K : ℕ) → q < R + K → (3 ≤ record_start R q) × (1 ≤ record_length R q) × (record_start R q + record_length R q ≤ 3 + 15 * R + 10 * K)
-  unfolding record_start record_length
   record_in K hq = go (ltb q R) refl
     where
       go : (b : Bool) → ltb q R ≡ b → (3 ≤ record_start R q) × (1 ≤ cond b 15 10) × (record_start R q + cond b 15 10 ≤ 3 + 15 * R + 10 * K)
@@ -55,7 +51,6 @@ module _ (R q : ℕ) where
     -- what holds of word j is what holds of that word of a rule, or of a node
     pub in_record_lem : (words : List ℕ) → R ≡ rule_count words → {A : Type 0} (of_rule of_node : ℕ → ℕ → A)
         → in_record words of_rule of_node (record_start R q + j) ≡ cond (ltb q R) (of_rule q j) (of_node (q - R) j)
-    unfolding record_start record_length
     in_record_lem words same of_rule of_node = go (ltb q R) refl
       where
         go : (b : Bool) → ltb q R ≡ b → in_record words of_rule of_node (record_start R q + j) ≡ cond b (of_rule q j) (of_node (q - R) j)

@@ -17,7 +17,7 @@ field_numbers = map (map number_of) field_sorts
 
 -- the row of a kind is the specs' line
 row_is : (kind : ℕ) → get_or field_sorts (row_of kind) [] ≡ get_or field_sorts kind no_field
-unfolding field_sorts row_of
+unfolding field_sorts
 row_is kind = go (ltb kind 29) refl
   where
     go : (b : Bool) → ltb kind 29 ≡ b → get_or field_sorts (cond b kind 0) [] ≡ get_or field_sorts kind no_field
@@ -25,7 +25,6 @@ row_is kind = go (ltb kind 29) refl
     go false e = sym (get_or-eq_default field_sorts no_field (ltb-false kind 29 e))
 
 pub row_few : (kind : ℕ) → row_of kind < 29
-unfolding row_of
 row_few kind = go (ltb kind 29) refl
   where
     go : (b : Bool) → ltb kind 29 ≡ b → cond b kind 0 < 29
@@ -36,24 +35,24 @@ module _ (words : List ℕ) (start : ℕ) where
   -- numbers and sorts that are one after the other the same in force
   each : (numbers : List ℕ) (sorts : List Sort) (j : ℕ) → map (force words start) numbers ≡ map (in_force words start) sorts
       → force words start (get_or numbers j 0) ≡ in_force words start (get_or sorts j unused)
-  unfolding force in_force
+  unfolding in_force
   each numbers sorts j same =
       sym (get_or-map (force words start) numbers j 0) ∙ rw same (get_or-map (in_force words start) sorts j unused)
 
   -- a rule's record, and all rows
   rules_same : map (force words start) rule_numbers ≡ map (in_force words start) rule_sorts
-  unfolding force in_force number_of rule_sorts
+  unfolding in_force rule_sorts
   rules_same = refl
 
   rows_same : map (map (force words start)) field_numbers ≡ map (map (in_force words start)) field_sorts
-  unfolding force in_force number_of field_sorts
+  unfolding in_force field_sorts
   rows_same = refl
 
   pub rule_forced : (j : ℕ) → force words start (get_or rule_numbers j 0) ≡ in_force words start (get_or rule_sorts j unused)
   rule_forced j = each rule_numbers rule_sorts j rules_same
 
   pub row_forced : (kind j : ℕ) → eqb j 0 ≡ false → force words start (in_row field_numbers (row_of kind) j) ≡ in_force words start (field_sort kind j)
-  unfolding in_row field_sort
+  unfolding field_sort
   row_forced kind j e =
       let row = row_of kind in
       let same : map (force words start) (get_or field_numbers row []) ≡ map (in_force words start) (get_or field_sorts row []) =

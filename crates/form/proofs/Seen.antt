@@ -2,18 +2,21 @@
 use mathlib.Core.Bool.{true, false}
 use mathlib.Core.List.{List}
 use mathlib.Core.Logic.{⊎_elim}
-use mathlib.Core.Path.{◌≡◌, refl, sym}
+use mathlib.Core.Path.{◌≡◌, refl, sym, subst}
 use Prim.Native.Nat.{ℕ, ◌+◌, ◌-◌, ◌≤◌, ◌<◌}
 use native.Mathlib.Nat.{eq-or-lt_of_le}
 use native.Mathlib.Omega.{arith}
 use lib.ListN.{length, get_or, replicate}
-use borrow.Author.Tests.{lt-ltb, le-ltb}
 use Rattle.laws.specs.Smallest.{smallest_at, smallest_none}
 use Rattle.grammar.specs.Words.{word}
 use Rattle.grammar.specs.Form.{in_record, rule_word_uses, node_word_uses, word_ok, uses}
+use Rattle.std.specs.Prelude.{Some, None, is_some, T}
 use Rattle.form.specs.Sorts.{is_node}
 use Rattle.form.specs.Scan.{one_more, Scanned}
 use Rattle.form.proofs.Tallies.{Tally, tally_none, tally_most, tally_next, more_long}
+
+some_is_not_none : {i : ℕ} → Some i ≡ None → ⊥
+some_is_not_none e = subst (λ o. T (is_some o)) e tt
 
 pub record Seen (words counts : List ℕ) (i : ℕ) : Type 0 where
   pub passed : (k : ℕ) → 3 ≤ k → k < i → word_ok words k ≡ true
@@ -38,18 +41,17 @@ module _ (words counts : List ℕ) (i : ℕ) (from : 3 ≤ i) (seen : Seen words
       }
 
   -- the word is bad, or there is none
-  pub at_bad : (after : List ℕ) → i < length words → word_ok words i ≡ false → Scanned words after i
+  pub at_bad : (after : List ℕ) → i < length words → word_ok words i ≡ false → Scanned words after (Some i)
   at_bad after h bad =
       record {
-        stopped = rw (lt-ltb i (length words) h) (sym (smallest_at (word_ok words) 3 (length words - 3) i from (omega arith) seen.passed bad));
-        counted = λ end. absurd (omega arith);
+        stopped = sym (smallest_at (word_ok words) 3 (length words - 3) i from (omega arith) seen.passed bad);
+        counted = λ none. absurd (some_is_not_none none);
       }
 
-  pub at_all : i ≡ length words → Scanned words counts i
+  pub at_all : i ≡ length words → Scanned words counts None
   unfolding uses
   at_all end =
       record {
-        stopped =
-            rw (le-ltb i (length words) (omega arith)) (sym (smallest_none (word_ok words) 3 (length words - 3) (λ k low high. seen.passed k low (omega arith))));
-        counted = λ h. record { at = λ k few. rw (← end) (seen.tally k few) };
+        stopped = sym (smallest_none (word_ok words) 3 (length words - 3) (λ k low high. seen.passed k low (omega arith)));
+        counted = λ none. record { at = λ k few. rw (← end) (seen.tally k few) };
       }

@@ -18,7 +18,6 @@ use Rattle.form.specs.Scan.{one_more}
 -- one use more, where there is one
 module _ (counts : List ℕ) (long : length counts ≡ 1024) (n w : ℕ) where
   pub more_long : length (one_more counts n w) ≡ 1024
-  unfolding one_more
   more_long = go (is_node n && ltb w 1024)
     where
       go : (b : Bool) → length (cond b (set counts w (get_or counts w 0 + 1)) counts) ≡ 1024
@@ -26,7 +25,6 @@ module _ (counts : List ℕ) (long : length counts ≡ 1024) (n w : ℕ) where
       go false = long
 
   more_at : (k : ℕ) → k < 1024 → get_or (one_more counts n w) k 0 ≡ get_or counts k 0 + cond (eqb w k && is_node n) 1 0
-  unfolding one_more
   more_at k hk = go (eqb w k) refl (is_node n) (ltb w 1024) refl
     where
       go : (b : Bool) → eqb w k ≡ b → (node : Bool) (few : Bool) → ltb w 1024 ≡ few

@@ -4,11 +4,11 @@ use Rattle.grammar.specs.Words.{word, inherited_count, returned_count}
 use Rattle.grammar.specs.Form.{Sort, unused, byte, bit, any, parsing, expression, rule, slot, argument, receiving, text_start, text_length, count, inherited_type, returned, returned_type, fits, rule_sorts, is_type, is_kind}
 
 -- a number below 11 stands for a sort
-unfoldable pub plain_sorts : List Sort
+abbrev pub plain_sorts : List Sort
 plain_sorts = unused ∷ byte ∷ bit ∷ any ∷ parsing ∷ expression ∷ rule ∷ slot ∷ text_start ∷ text_length ∷ count ∷ []
 
 -- the number of each sort; from 11 on there are four numbers to a sort that has places
-unfoldable pub number_of : Sort → ℕ
+abbrev pub number_of : Sort → ℕ
 number_of unused = 0
 number_of byte = 1
 number_of bit = 2
@@ -31,11 +31,11 @@ abbrev pub rule_numbers : List ℕ
 rule_numbers = map number_of rule_sorts
 
 -- the row of a kind, where there is one for each of the kinds below 29; any other has that of 0, which is no kind
-unfoldable pub row_of : (kind : ℕ) → ℕ
+abbrev pub row_of : (kind : ℕ) → ℕ
 row_of kind = cond (ltb kind 29) kind 0
 
 -- word j of a node's record, from its row: word 0 is a kind, which is 32, and word 1 has the first place of the row
-unfoldable pub in_row : (rows : List (List ℕ)) (row j : ℕ) → ℕ
+abbrev pub in_row : (rows : List (List ℕ)) (row j : ℕ) → ℕ
 in_row rows row j = cond (eqb j 0) 32 (get_or (get_or rows row []) (j - 1) 0)
 
 -- 'Places past n or m hold 0': what place i of four is, of which n are in use
@@ -44,7 +44,7 @@ placed i n sort = cond (ltb i n) sort 0
 
 module _ (words : List ℕ) (start : ℕ) where
   -- the sort in force where a table says n, in the record that starts at word `start`; 31 is a type
-  unfoldable pub force : (n : ℕ) → ℕ
+  abbrev pub force : (n : ℕ) → ℕ
   force n =
       let one = word words (start + 1) in
       let six = word words (start + 6) in
@@ -57,7 +57,7 @@ module _ (words : List ℕ) (start : ℕ) where
       (placed (n - 27) six 31))))))
 
   -- the word w is of the sort in force
-  unfoldable pub passes : (bound n w : ℕ) → Bool
+  abbrev pub passes : (bound n w : ℕ) → Bool
   passes bound n w =
       cond (eqb n 31) (is_type w)
       (cond (eqb n 32) (is_kind w)

@@ -9,32 +9,18 @@ use super::sorts::*;
 use super::uses::count_use;
 use table::records::{kind_at, literal_count, node_count, rule_count, word_at};
 
-fn between(low: u16, w: u16, high: u16) -> bool
-    ensures { result ≡ (leb low w && leb w high) }
-{
-    if low <= w { w <= high } else { false }
-}
-
 // Document 01 lists 1 to 10 as parsing nodes and 16 to 28 as expressions.
 fn is_kind(w: u16) -> bool
     ensures { result ≡ is_kind w }
 {
-    if between(1, w, 10) {
-        true
-    } else {
-        between(16, w, 28)
-    }
+    (1..=10).contains(&w) || (16..=28).contains(&w)
 }
 
 // "A part or argument has a smaller number than its node and is of the sort wanted": of a kind from low to high.
 fn is_part(words: &[u16], low: u16, high: u16, bound: u16, w: u16) -> bool
     ensures { result ≡ is_part words.now (λ kind. leb low kind && leb kind high) bound w }
 {
-    if w < bound {
-        between(low, kind_at(words, w), high)
-    } else {
-        false
-    }
+    w < bound && (low..=high).contains(&kind_at(words, w))
 }
 
 // The word w is of the sort in force. Any other number of a sort asks for 0, as UNUSED does.
@@ -51,9 +37,11 @@ fn passes(words: &[u16], bound: u16, start: usize, sort: u8, w: u16) -> bool
         RULE => w < rule_count(words),
         SLOT => w < 16,
         TEXT_START => w <= literal_count(words),
-        TEXT_LENGTH => word_at(words, start + 1) as u32 + w as u32 <= literal_count(words) as u32,
+        TEXT_LENGTH => {
+            u32::from(word_at(words, start + 1)) + u32::from(w) <= u32::from(literal_count(words))
+        }
         COUNT => w <= 4,
-        TYPE => between(1, w, 3),
+        TYPE => (1..=3).contains(&w),
         KIND => is_kind(w),
         _ => w == 0,
     }
@@ -97,9 +85,9 @@ fn record_bound(rules: u16, nodes: u16, q: u16) -> u16
     if q < rules { nodes } else { q - rules }
 }
 
-// "The scan for FIELD stops inside a record at its first bad word": the first bad word, in word order; the number of words where there is none. Then the
-// counts, all 0 at first, are those of the uses.
-pub(crate) fn first_bad(words: &[u16], counts: &mut [u16; 1024]) -> usize
+// "The scan for FIELD stops inside a record at its first bad word": the first bad word, in word order. Where there is none, the counts, all 0 at first,
+// are those of the uses.
+pub(crate) fn first_bad(words: &[u16], counts: &mut [u16; 1024]) -> Option<usize>
     requires sized { Sized words.now }
     requires counts_value { counts.old ≡ replicate 1024 0 }
     ensures { Scanned words.now counts.new result }
@@ -107,26 +95,21 @@ pub(crate) fn first_bad(words: &[u16], counts: &mut [u16; 1024]) -> usize
     let rows = FIELD_SORTS;
     let rules = rule_count(words);
     let nodes = node_count(words);
-    let records = rules + nodes;
-    let mut q: u16 = 0;
+    let mut bad = None;
     let mut start: usize = 3;
-    'records: loop {
-        if records <= q {
-            break 'records start;
-        }
+    'records: for q in 0..rules + nodes {
         let size = record_length(rules, q);
         let bound = record_bound(rules, nodes, q);
         let row = row_of(words[start]);
-        let mut j: u16 = 0;
-        while j < size {
-            let i = start + j as usize;
+        for j in 0..size {
+            let i = start + usize::from(j);
             let own = record_sort(&rows, rules, q, row, j);
             if !word_ok(words, counts, bound, start, own, words[i]) {
-                break 'records i;
+                bad = Some(i);
+                break 'records;
             }
-            j += 1;
         }
-        start += size as usize;
-        q += 1;
+        start += usize::from(size);
     }
+    bad
 }

@@ -4,17 +4,13 @@ ghost use Rattle.laws.specs.Counting.{smallest_failing};
 ghost use Rattle.form.specs.Sorts;
 ghost use Rattle.form.specs.Scan;
 
-use super::sorts::*;
+use super::sorts::{EXPRESSION, PARSING};
 
 // A word of this sort in force uses a node: a parsing node, or an expression.
 fn is_node(sort: u8) -> bool
     ensures { result ≡ Sorts.is_node sort }
 {
-    if sort == PARSING {
-        true
-    } else {
-        sort == EXPRESSION
-    }
+    matches!(sort, PARSING | EXPRESSION)
 }
 
 // One use more of the node w, where a word of this sort in force uses one. A number from 1,024 on is no node's, and counts nothing.
@@ -23,24 +19,23 @@ pub(crate) fn count_use(counts: &mut [u16; 1024], sort: u8, w: u16)
     ensures { counts.new ≡ Scan.one_more counts.old sort w }
 {
     if is_node(sort) {
-        let k = w as usize;
+        // By `get_mut` the proof doesn't close: what an array holds after a write through it isn't known.
+        let k = usize::from(w);
         if k < 1024 {
-            counts[k] = counts[k] + 1;
+            counts[k] += 1;
         }
     }
 }
 
-// The first of n counts that is not 1; n where there is none.
-pub(crate) fn first_other(counts: &[u16; 1024], n: u16) -> u16
+// The first of n counts that is not 1.
+pub(crate) fn first_other(counts: &[u16; 1024], n: u16) -> Option<u16>
     requires { n ≤ 1024 }
-    ensures { Scan.found n result ≡ smallest_failing (λ k. eqb (get_or counts.now k 0) 1) 0 n }
+    ensures { Scan.found result ≡ smallest_failing (λ k. eqb (get_or counts.now k 0) 1) 0 n }
 {
-    let mut k: u16 = 0;
-    while k < n {
-        if counts[k as usize] != 1 {
-            return k;
+    for k in 0..n {
+        if counts[usize::from(k)] != 1 {
+            return Some(k);
         }
-        k += 1;
     }
-    n
+    None
 }

@@ -1,14 +1,17 @@
 -- Copies and zeros, word by word: one word more, and zeros past the end; a slot that there is, and one that there isn't. Assumes nothing.
-use mathlib.Core.Path.{◌≡◌, refl, ap, ◌∙◌}
-use mathlib.Core.List.{List}
+use mathlib.Core.Path.{◌≡◌, refl, sym, ap, ◌∙◌}
+use mathlib.Core.List.{List, ◌++◌}
 use mathlib.Core.Logic.{⊎_elim}
-use Prim.Native.Nat.{ℕ, zero, suc, ◌+◌, ◌-◌, ◌≤◌, ◌<◌}
+use Prim.Native.Nat.{ℕ, zero, suc, ◌+◌, ◌-◌, ◌≤◌, ◌<◌, min}
 use native.Mathlib.Nat.{eq-or-lt_of_le}
 use native.Mathlib.Numerals.{add-one}
 use native.Mathlib.Omega.{arith}
-use lib.ListN.{length, get_or, set, length-set}
-use lib.Seq.{set_out, get_or-set_same, get_or-set_other}
+use lib.ListN.{length, get_or, set, drop, replicate, length-set}
+use lib.Seq.{paste, paste-zero, paste-suc, get_or-set_same, set_out, get_or-set_other}
 use borrow.Author.Tests.{lt-ltb, le-ltb}
+use Rattle.std.proofs.lemmas.List.{get_or-replicate, length-replicate}
+use Rattle.std.proofs.lemmas.Bool.{cases_lt}
+use Rattle.std.proofs.lemmas.List.Edits.{paste_all}
 use Rattle.grammar.specs.declared.Value.{Value}
 use Rattle.values.specs.Slots.{with_slot}
 use Rattle.frames.specs.Frames.{Taken, stored, copied, cleared, written}
@@ -48,9 +51,26 @@ copied_apart w from to slots taken apart (suc n) h =
     let before = copied_apart w from to slots taken apart n (omega arith) in
     rw (← before, stored_other w to slots n (from + n) (λ g. omega arith), ← taken.at n (omega arith))
 
-pub cleared_more : (w : List ℕ) (n : ℕ) → cleared w (n + 1) ≡ set (cleared w n) n 0
-unfolding cleared
-cleared_more w n = rw add-one
+-- words stored one by one are words pasted
+stored_paste : (w : List ℕ) (to : ℕ) (slots : List ℕ) (n : ℕ) → to + n ≤ length w → n ≤ length slots → stored w to slots n ≡ paste w to slots n
+unfolding stored
+stored_paste w to slots zero h k = paste-zero w to slots
+stored_paste w to slots (suc n) h k =
+    let before = stored_paste w to slots n (omega arith) (omega arith) in
+    rw before (paste-suc w to slots n 0 (omega arith) (omega arith))
+
+zeros_stored : (w : List ℕ) (m n : ℕ) → n ≤ m → cleared w n ≡ stored w 0 (replicate m 0) n
+unfolding stored cleared
+zeros_stored w m zero h = refl
+zeros_stored w m (suc n) h =
+    let z : 0 + n ≡ n = omega arith in
+    rw (zeros_stored w m n (omega arith), z, get_or-replicate {A = ℕ} m n 0 0 (omega arith))
+
+pub cleared_part : (w : List ℕ) (n : ℕ) → n ≤ length w → replicate n 0 ++ drop n w ≡ cleared w n
+cleared_part w n h =
+    let z : 0 + n ≡ n = omega arith in
+    let k : length (replicate {A = ℕ} n 0) ≡ n = length-replicate {A = ℕ} n 0 in
+    sym (rw z at (zeros_stored w n n (omega arith) ∙ stored_paste w 0 (replicate {A = ℕ} n 0) n (omega arith) (omega (arith, k)) ∙ paste_all w 0 (replicate n 0) n (sym k)))
 
 pub cleared_length : (w : List ℕ) (n : ℕ) → length (cleared w n) ≡ length w
 unfolding cleared
@@ -66,8 +86,15 @@ beyond w (suc k) =
     let l : length (cleared w (length w + k)) ≤ length w + k = rw (cleared_length w (length w + k)) (omega arith) in
     rw e (set_out (cleared w (length w + k)) (length w + k) 0 l ∙ beyond w k)
 
-pub cleared_all : (w : List ℕ) (n : ℕ) → length w ≤ n → cleared w n ≡ cleared w (length w)
+cleared_all : (w : List ℕ) (n : ℕ) → length w ≤ n → cleared w n ≡ cleared w (length w)
 cleared_all w n h = let e : n ≡ length w + (n - length w) = omega arith in ap (cleared w) e ∙ beyond w (n - length w)
+
+-- as many as there are
+pub cleared_there : (w : List ℕ) (n there : ℕ) → there ≡ min n (length w) → cleared w there ≡ cleared w n
+cleared_there w n there e = ⊎_elim
+    (λ (h : length w < n). let q : there ≡ length w = omega arith in rw q (sym (cleared_all w n (omega arith))))
+    (λ (h : n ≤ length w). let q : there ≡ n = omega arith in rw q)
+    (cases_lt (length w) n)
 
 module _ (w : List ℕ) (s : ℕ) (v : Value) where
   pub written_slot : s < 16 → written w s v ≡ with_slot w s v

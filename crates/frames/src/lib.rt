@@ -15,7 +15,7 @@ use values::slots::write_word;
 fn start(d: u16) -> usize
     ensures { result ≡ base d }
 {
-    32 + 38 * d as usize
+    32 + 38 * usize::from(d)
 }
 
 // What is read back is not trusted: a node's number and a position are 16-bit numbers, whatever stands there.
@@ -25,6 +25,7 @@ pub fn node_in(work: &[u32], d: u16) -> u16
     (words::get(work, start(d)) % 65536) as u16
 }
 
+// The word as it stands (i): `phase_in` of the specs is a number, 0 in the first part and any other in the second.
 pub fn phase_in(work: &[u32], d: u16) -> u32
     ensures { result ≡ phase_in work.now d }
 {
@@ -42,7 +43,7 @@ pub fn save(work: &mut [u32], d: u16, at: u16)
     ensures { work.new ≡ saved work.old d at }
 {
     let first = start(d);
-    write_word(work, first + 2, at as u32);
+    write_word(work, first + 2, u32::from(at));
     words::copy(work, 0, first + 6);
 }
 
@@ -51,7 +52,7 @@ pub fn push(work: &mut [u32], d: u16, k: u16, at: u16)
     ensures { work.new ≡ pushed work.old d k at }
 {
     let first = start(d);
-    write_word(work, first, k as u32);
+    write_word(work, first, u32::from(k));
     write_word(work, first + 1, 0);
     save(work, d, at);
 }

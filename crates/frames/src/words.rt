@@ -7,15 +7,16 @@ use values::slots::write_word;
 pub(crate) fn get(words: &[u32], i: usize) -> u32
     ensures { result ≡ get_or words.now i 0 }
 {
-    if i < words.len() { words[i] } else { 0 }
+    words.get(i).copied().unwrap_or(0)
 }
 
-// The sixteen slots that stand from word `from` on, in an array of their own. All the words are there, so that no test stands in the loop.
+// The sixteen slots that stand from word `from` on, in an array of their own. Here and in `put` by a loop over all 32 (ii): copy_from_slice isn't put into
+// its callers, and a visit of bench (a) takes 354 instructions with it, not 277; of (e) 253, not 189.
 fn taken(words: &[u32], from: usize) -> [u32; 32]
     requires { from + 32 ≤ length words.now }
     ensures { Taken words.now from result }
 {
-    let mut slots = [0u32; 32];
+    let mut slots = [0; 32];
     for i in 0..32 {
         slots[i] = words[from + i];
     }
@@ -32,16 +33,7 @@ fn put(words: &mut [u32], to: usize, slots: [u32; 32])
     }
 }
 
-// Through an array: of two parts of one area the compiler can't know that they lie apart, and would move word by word; most of a run's time would
-// go into that.
-fn copy_inside(words: &mut [u32], from: usize, to: usize)
-    requires { (from + 32 ≤ length words.old) × (to + 32 ≤ length words.old) × (32 ≤ (from - to) + (to - from)) }
-    ensures { words.new ≡ copied words.old from to 32 }
-{
-    let slots = taken(words, from);
-    put(words, to, slots);
-}
-
+// Where the words end within one of the two ranges. By number (iv): one slice is read and written in turn, which no iterator does.
 fn copy_across(words: &mut [u32], from: usize, to: usize)
     requires { (from + 32 < 4294967296) × (to + 32 < 4294967296) }
     ensures { words.new ≡ copied words.old from to 32 }
@@ -52,36 +44,24 @@ fn copy_across(words: &mut [u32], from: usize, to: usize)
     }
 }
 
-// Sixteen slots from one place to another, which lie apart.
+// Sixteen slots from one place to another, which lie apart. Through an array, and not by `copy_within` (ii): of two parts of one area the compiler
+// can't know that they lie apart, and would move word by word; most of a run's time would go into that.
 pub(crate) fn copy(words: &mut [u32], from: usize, to: usize)
     requires { (from + 32 < 4294967296) × (to + 32 < 4294967296) × (32 ≤ (from - to) + (to - from)) }
     ensures { words.new ≡ copied words.old from to 32 }
 {
-    let last = if from < to { to } else { from };
-    if words.len() < last + 32 {
+    if words.len() < from.max(to) + 32 {
         copy_across(words, from, to);
         return;
     }
-    copy_inside(words, from, to);
-}
-
-fn clear_inside(words: &mut [u32], n: usize)
-    requires { n ≤ length words.old }
-    ensures { words.new ≡ cleared words.old n }
-{
-    for i in 0..n {
-        words[i] = 0;
-    }
+    let slots = taken(words, from);
+    put(words, to, slots);
 }
 
 // The first n words become 0.
 pub(crate) fn clear(words: &mut [u32], n: usize)
     ensures { words.new ≡ cleared words.old n }
 {
-    let length = words.len();
-    if length < n {
-        clear_inside(words, length);
-        return;
-    }
-    clear_inside(words, n);
+    let there = n.min(words.len());
+    words[..there].fill(0);
 }

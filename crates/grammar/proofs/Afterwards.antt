@@ -1,4 +1,5 @@
 -- What the work area holds after an answer, word by word. Assumes nothing.
+use Rattle.std.specs.Prelude.{Ok, Err}
 use mathlib.Core.Path.{◌≡◌, refl}
 use mathlib.Core.List.{List, [], ◌∷◌, ◌++◌}
 use Prim.Native.Nat.{ℕ, zero, suc, ◌<◌, ◌≤◌}
@@ -7,8 +8,8 @@ use lib.Dec.{leb}
 use lib.ListN.{get_or, length, drop, replicate}
 use borrow.Author.Tests.{leb-true}
 use Rattle.grammar.specs.declared.Mode.{Mode}
-use Rattle.grammar.specs.declared.Verdict.{Verdict}
-use Rattle.grammar.specs.declared.Verdict.TheVariants.{Passed, Size, Field, Use, Start, Untyped, Long, Work}
+use Rattle.grammar.specs.declared.Refusal.TheVariants.{Long, Work}
+use Rattle.grammar.specs.Form.{Verdict, passed}
 use Rattle.grammar.specs.Form.{unless_ok}
 use Rattle.grammar.specs.Answer.{work_words, check_for, check, zeroed, left_after, work_after}
 use Rattle.grammar.proofs.Facts.{Refused, followed_by_passed, unless_ok_passed}
@@ -32,13 +33,13 @@ pub record LeftByRun (before after : List ℕ) : Type 0 where
 
 module _ (mode : Mode) (words literals message work : List ℕ) where
   -- WORK has passed
-  long_enough : check mode words literals (length message) (length work) ≡ Passed → work_words ≤ length work
+  long_enough : check mode words literals (length message) (length work) ≡ passed → work_words ≤ length work
   unfolding check
   long_enough e =
       let limits = (followed_by_passed (check_for mode words literals) _ e).1 in
-      leb-true work_words (length work) (unless_ok_passed (leb work_words (length work)) Work tt (followed_by_passed (unless_ok (leb (length message) 65535) Long) _ limits).1)
+      leb-true work_words (length work) (unless_ok_passed (leb work_words (length work)) Work (followed_by_passed (unless_ok (leb (length message) 65535) Long) _ limits).1)
 
-  pub run_leaves : check mode words literals (length message) (length work) ≡ Passed → LeftByRun work (work_after mode words literals message work)
+  pub run_leaves : check mode words literals (length message) (length work) ≡ passed → LeftByRun work (work_after mode words literals message work)
   unfolding work_after left_after zeroed
   run_leaves e = rw e (record {
     zero_words = λ i other h. front_zero work_words (drop work_words work) i other h;
@@ -51,11 +52,5 @@ module _ (mode : Mode) (words literals message work : List ℕ) where
   refusal_leaves = by (check mode words literals (length message) (length work))
     where
       by : (v : Verdict) → Refused v → left_after v work ≡ work
-      by Passed h = absurd h
-      by Size h = refl
-      by (Field i) h = refl
-      by (Use k) h = refl
-      by Start h = refl
-      by (Untyped r) h = refl
-      by Long h = refl
-      by Work h = refl
+      by (Ok _) h = absurd h
+      by (Err why) h = refl

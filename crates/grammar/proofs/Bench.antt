@@ -1,4 +1,5 @@
 -- Bench cases A to O of document 01, as one list, and one claim: the written meaning gives each its answer. Assumes nothing.
+use Rattle.std.specs.Prelude.{Err, get_or}
 use mathlib.Core.Path.{◌≡◌, refl}
 use mathlib.Core.List.{List, [], ◌∷◌, ◌++◌, map}
 use mathlib.Core.Bool.{false}
@@ -20,8 +21,8 @@ use Rattle.grammar.specs.Types as T
 use Rattle.grammar.specs.Values as L
 use Rattle.grammar.specs.Run as R
 use Rattle.grammar.specs.Answer as A
-use Rattle.grammar.specs.declared.Verdict.{Verdict}
-use Rattle.grammar.specs.declared.Verdict.TheVariants.{Passed, Untyped}
+use Rattle.grammar.specs.declared.Refusal.TheVariants.{Untyped}
+use Rattle.grammar.specs.Form.{Verdict, passed}
 use Rattle.grammar.specs.Values.{text_bytes}
 use Rattle.grammar.specs.Answer.{answered, answer, type_check, work_words}
 
@@ -177,13 +178,13 @@ pub record Case : Type 0 where
 pub given : Case → Outcome
 given c =
     let a = answer c.mode c.words [] c.message c.budget work_words in
-    record { answer = a; bytes = text_bytes c.message [] a.value0; types = type_check c.words [] }
+    record { answer = a; bytes = text_bytes c.message [] (get_or a.values 0 Val.Absent); types = type_check c.words [] }
 
 abbrev pub typed : Answer → Outcome
-typed a = record { answer = a; bytes = []; types = Passed }
+typed a = record { answer = a; bytes = []; types = passed }
 
 abbrev pub untyped : Answer → Outcome
-untyped a = record { answer = a; bytes = []; types = Untyped 0 }
+untyped a = record { answer = a; bytes = []; types = Err (Untyped 0) }
 
 -- a budget where the case names none: the largest
 abbrev pub plenty : ℕ
@@ -197,7 +198,7 @@ x= v = v ∷ []
 
 pub cases : List Case
 cases =
-    record { mode = Display; words = table_a; message = 71 ∷ 49 ∷ []; budget = 2; expected = record { answer = answered DONE 0 1 2 (x= (Val.Text (record { literal = false; start = 0; length = 1 }))); bytes = 71 ∷ []; types = Passed } }  -- A
+    record { mode = Display; words = table_a; message = 71 ∷ 49 ∷ []; budget = 2; expected = record { answer = answered DONE 0 1 2 (x= (Val.Text (record { literal = false; start = 0; length = 1 }))); bytes = 71 ∷ []; types = passed } }  -- A
     ∷ record { mode = Display; words = table_a; message = []; budget = 2; expected = typed (answered NOMATCH 0 0 2 no_values) }  -- B
     ∷ record { mode = Display; words = table_a; message = 71 ∷ 49 ∷ []; budget = 1; expected = typed (answered BUDGET 0 0 1 no_values) }  -- C
     ∷ record { mode = Display; words = table_a; message = 71 ∷ 49 ∷ []; budget = 0; expected = typed (answered BUDGET 1 0 0 no_values) }  -- D
@@ -218,7 +219,7 @@ cases =
     ∷ []
 
 pub bench : map given cases ≡ map (λ (c : Case). c.expected) cases
-unfolding given cases table_a table_e table_f table_g table_h table_i table_j table_k table_l table_m table_n table_o tabulate smallest_failing how_many signed nodes node_for node_at node expr_of parsing_of expr_with expr_at parsing_with parsing_at rule_at grammar_of F.field_sorts F.field_sort F.rule_sorts F.fits F.rule_word_ok F.node_word_ok F.word_ok F.uses_node F.word_uses F.uses F.every F.size_ok F.table_check same T.operator_type T.expr_type T.has T.have_all T.assign T.assign_all T.type_of T.typed_after T.typed_rule T.untyped L.fitting L.quotient L.calculated L.span_bytes L.text_bytes L.same_texts L.equal L.look_left L.operate L.negated R.eval R.eval_all R.next R.with_value R.judged R.fresh R.receive R.byte_stands R.rounds R.due R.returning R.visit R.admit R.apply A.number A.place A.ending_number A.type_rules type_check A.check A.run A.answer_of A.refusal A.conclude answer
+unfolding given cases table_a table_e table_f table_g table_h table_i table_j table_k table_l table_m table_n table_o tabulate smallest_failing how_many signed nodes node_for node_at node expr_of parsing_of expr_with expr_at parsing_with parsing_at rule_at grammar_of F.field_sorts F.field_sort F.rule_sorts F.fits F.rule_word_ok F.node_word_ok F.word_ok F.uses_node F.word_uses F.uses F.every F.size_ok F.table_check same T.operator_type T.expr_type T.has T.have_all T.assign T.assign_all T.type_of T.typed_after T.typed_rule T.untyped L.fitting L.quotient L.calculated L.span_bytes L.text_bytes L.same_texts L.equal L.look_left L.operate L.negated R.eval R.eval_all R.next R.with_value R.judged R.fresh R.receive R.byte_stands R.rounds R.due R.returning R.visit R.admit R.apply A.number A.place A.refusal_number A.refusal_place A.ending_number A.type_rules type_check A.check A.run A.answer_of A.refusal A.conclude answer
 bench = refl
 
 -- ════ 'smallest such rule' ════
@@ -229,6 +230,6 @@ two_untyped =
     (3 ∷ 5 ∷ 0 ∷ [])
     ++ (records 15 (body 0 ∷ body 2 ∷ body 4 ∷ []) ++ records 10 (empty ∷ integer 0 1 ∷ constraint 1 ∷ integer 0 1 ∷ constraint 3 ∷ []))
 
-pub smallest_told : type_check two_untyped [] ≡ Untyped 1
+pub smallest_told : type_check two_untyped [] ≡ Err (Untyped 1)
 unfolding two_untyped tabulate smallest_failing how_many signed nodes node_for node_at expr_of parsing_of expr_with expr_at parsing_with parsing_at rule_at grammar_of F.field_sorts F.field_sort F.rule_sorts F.fits F.rule_word_ok F.node_word_ok F.word_ok F.uses_node F.word_uses F.uses F.every F.size_ok F.table_check T.expr_type T.has T.have_all T.type_of T.typed_after T.typed_rule T.untyped A.type_rules type_check
 smallest_told = refl

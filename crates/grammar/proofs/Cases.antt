@@ -1,5 +1,6 @@
 -- Cases beside the bench cases, each computed from the written meaning: numbers and places of refusals, the edges of the checks, runs over literals, operators,
 -- a call and Texts, what each operator gives, and constraints. A slip that is made alike in meaning and code would change them. Assumes nothing.
+use Rattle.std.specs.Prelude.{Err}
 use mathlib.Core.Path.{◌≡◌, refl}
 use mathlib.Core.List.{List, [], ◌∷◌, ◌++◌, map}
 use mathlib.Core.Bool.{Bool, true, false}
@@ -18,8 +19,8 @@ use Rattle.grammar.specs.declared.Value.{Value}
 use Rattle.grammar.specs.declared.Value.TheVariants as Val
 use Rattle.grammar.specs.declared.Mode.{Mode}
 use Rattle.grammar.specs.declared.Mode.TheVariants.{Bench, Display}
-use Rattle.grammar.specs.declared.Verdict.{Verdict}
-use Rattle.grammar.specs.declared.Verdict.TheVariants.{Passed, Size, Field, Use, Start, Untyped, Long, Work}
+use Rattle.grammar.specs.declared.Refusal.TheVariants.{Size, Field, Use, Start, Untyped, Long, Work}
+use Rattle.grammar.specs.Form.{Verdict, passed}
 use Rattle.grammar.specs.Numbers.{DONE}
 use Rattle.grammar.specs.Words.{signed, nodes, node_for, node_at}
 use Rattle.grammar.specs.Tree.{node, expr_of, parsing_of, expr_with, expr_at, parsing_with, parsing_at, rule_at, grammar_of}
@@ -36,9 +37,9 @@ use Rattle.grammar.proofs.Bench.{records, body, returning, empty, terminal, sequ
 -- ════ 'Numbers that come back': number and place ════
 
 pub refusals :
-    map (λ v. number v ∷ place v ∷ []) (Passed ∷ Size ∷ Field 20 ∷ Use 30 ∷ Start ∷ Untyped 40 ∷ Long ∷ Work ∷ [])
+    map (λ v. number v ∷ place v ∷ []) (passed ∷ Err Size ∷ Err (Field 20) ∷ Err (Use 30) ∷ Err Start ∷ Err (Untyped 40) ∷ Err Long ∷ Err Work ∷ [])
     ≡ (0 ∷ 0 ∷ []) ∷ (1 ∷ 0 ∷ []) ∷ (2 ∷ 20 ∷ []) ∷ (3 ∷ 30 ∷ []) ∷ (4 ∷ 0 ∷ []) ∷ (5 ∷ 40 ∷ []) ∷ (6 ∷ 0 ∷ []) ∷ (7 ∷ 0 ∷ []) ∷ []
-unfolding number place
+unfolding number place A.refusal_number A.refusal_place
 refusals = refl
 
 -- ════ 'Integer (high word, low word, signed 32-bit two's complement)' ════
@@ -117,35 +118,35 @@ three = 97 ∷ 98 ∷ 99 ∷ []
 
 pub cases : List Case
 cases =
-    lengths_give 65535 9760 Passed  -- 'message over 65,535 bytes'
-    ∷ lengths_give 65536 9760 Long
-    ∷ lengths_give 65535 9759 Work  -- 'work area under W words'
-    ∷ lengths_give 65536 9759 Long  -- '6, 7'
-    ∷ table_gives (literal_at 0 3) three Passed  -- 'Text (start, length in the literals, end at most L)'
-    ∷ table_gives (literal_at 3 0) three Passed
-    ∷ table_gives (literal_at 4 0) three (Field 29)  -- 'a start over L is the bad word; else an end over L makes the length the bad word'
-    ∷ table_gives (literal_at 3 1) three (Field 30)
-    ∷ table_gives (literal_at 0 4) three (Field 30)
-    ∷ table_gives (literal_at 0 3) [] Size  -- 'literal bytes not L'
-    ∷ table_gives (table_of (body 0 ∷ []) ((1 ∷ 5 ∷ []) ∷ []) 0) [] (Field 19)  -- 'Fields a kind doesn't use are 0'
-    ∷ table_gives (table_of ((0 ∷ 0 ∷ 1 ∷ []) ∷ []) (empty ∷ []) 0) [] (Field 5)  -- 'Places past n or m hold 0'
-    ∷ table_gives (table_of ((0 ∷ 0 ∷ 0 ∷ 0 ∷ 0 ∷ 0 ∷ 0 ∷ 1 ∷ []) ∷ []) (empty ∷ []) 0) [] (Field 10)
-    ∷ table_gives (table_of ((0 ∷ 0 ∷ 0 ∷ 0 ∷ 0 ∷ 0 ∷ 0 ∷ 0 ∷ 0 ∷ 0 ∷ 0 ∷ 1 ∷ []) ∷ []) (empty ∷ []) 0) [] (Field 14)
-    ∷ table_gives (table_of (body 0 ∷ []) ((7 ∷ 0 ∷ 1 ∷ []) ∷ []) 0) [] (Field 20)
-    ∷ table_gives (table_of (body 0 ∷ []) ((7 ∷ 0 ∷ 0 ∷ 0 ∷ 0 ∷ 0 ∷ 1 ∷ []) ∷ []) 0) [] (Field 24)
-    ∷ table_gives (table_of (body 0 ∷ []) (terminal 255 ∷ []) 0) [] Passed  -- 'terminal (a byte)'
-    ∷ table_gives (table_of (body 0 ∷ []) (terminal 256 ∷ []) 0) [] (Field 19)
-    ∷ table_gives (table_of (body 1 ∷ []) (integer 0 1 ∷ update 15 0 ∷ []) 0) [] Passed  -- 'A rule has 16 attribute slots'
-    ∷ table_gives (table_of (body 1 ∷ []) (integer 0 1 ∷ update 16 0 ∷ []) 0) [] (Field 29)
-    ∷ table_gives (table_of (returning 0 1 1 ∷ []) (empty ∷ bool 1 ∷ []) 0) [] Passed  -- 'Bool (0 or 1)'
-    ∷ table_gives (table_of (returning 0 1 1 ∷ []) (empty ∷ bool 2 ∷ []) 0) [] (Field 29)
-    ∷ table_gives called [] Passed  -- 'Each node is used exactly once: as a part, an argument, a body or a returned node'
-    ∷ table_gives called_twice [] (Use 0)
-    ∷ table_gives used_thrice [] (Use 0)
-    ∷ table_gives unused [] (Use 1)
-    ∷ table_gives (table_of (body 0 ∷ []) (terminal 0 ∷ []) 0) [] Passed  -- the byte 0 is no node
-    ∷ table_gives inherits_too [] (Use 1)  -- '3, 4'
-    ∷ table_gives (table_of (inheriting 0 ∷ []) (empty ∷ []) 0) [] Start
+    lengths_give 65535 9760 passed  -- 'message over 65,535 bytes'
+    ∷ lengths_give 65536 9760 (Err Long)
+    ∷ lengths_give 65535 9759 (Err Work)  -- 'work area under W words'
+    ∷ lengths_give 65536 9759 (Err Long)  -- '6, 7'
+    ∷ table_gives (literal_at 0 3) three passed  -- 'Text (start, length in the literals, end at most L)'
+    ∷ table_gives (literal_at 3 0) three passed
+    ∷ table_gives (literal_at 4 0) three (Err (Field 29))  -- 'a start over L is the bad word; else an end over L makes the length the bad word'
+    ∷ table_gives (literal_at 3 1) three (Err (Field 30))
+    ∷ table_gives (literal_at 0 4) three (Err (Field 30))
+    ∷ table_gives (literal_at 0 3) [] (Err Size)  -- 'literal bytes not L'
+    ∷ table_gives (table_of (body 0 ∷ []) ((1 ∷ 5 ∷ []) ∷ []) 0) [] (Err (Field 19))  -- 'Fields a kind doesn't use are 0'
+    ∷ table_gives (table_of ((0 ∷ 0 ∷ 1 ∷ []) ∷ []) (empty ∷ []) 0) [] (Err (Field 5))  -- 'Places past n or m hold 0'
+    ∷ table_gives (table_of ((0 ∷ 0 ∷ 0 ∷ 0 ∷ 0 ∷ 0 ∷ 0 ∷ 1 ∷ []) ∷ []) (empty ∷ []) 0) [] (Err (Field 10))
+    ∷ table_gives (table_of ((0 ∷ 0 ∷ 0 ∷ 0 ∷ 0 ∷ 0 ∷ 0 ∷ 0 ∷ 0 ∷ 0 ∷ 0 ∷ 1 ∷ []) ∷ []) (empty ∷ []) 0) [] (Err (Field 14))
+    ∷ table_gives (table_of (body 0 ∷ []) ((7 ∷ 0 ∷ 1 ∷ []) ∷ []) 0) [] (Err (Field 20))
+    ∷ table_gives (table_of (body 0 ∷ []) ((7 ∷ 0 ∷ 0 ∷ 0 ∷ 0 ∷ 0 ∷ 1 ∷ []) ∷ []) 0) [] (Err (Field 24))
+    ∷ table_gives (table_of (body 0 ∷ []) (terminal 255 ∷ []) 0) [] passed  -- 'terminal (a byte)'
+    ∷ table_gives (table_of (body 0 ∷ []) (terminal 256 ∷ []) 0) [] (Err (Field 19))
+    ∷ table_gives (table_of (body 1 ∷ []) (integer 0 1 ∷ update 15 0 ∷ []) 0) [] passed  -- 'A rule has 16 attribute slots'
+    ∷ table_gives (table_of (body 1 ∷ []) (integer 0 1 ∷ update 16 0 ∷ []) 0) [] (Err (Field 29))
+    ∷ table_gives (table_of (returning 0 1 1 ∷ []) (empty ∷ bool 1 ∷ []) 0) [] passed  -- 'Bool (0 or 1)'
+    ∷ table_gives (table_of (returning 0 1 1 ∷ []) (empty ∷ bool 2 ∷ []) 0) [] (Err (Field 29))
+    ∷ table_gives called [] passed  -- 'Each node is used exactly once: as a part, an argument, a body or a returned node'
+    ∷ table_gives called_twice [] (Err (Use 0))
+    ∷ table_gives used_thrice [] (Err (Use 0))
+    ∷ table_gives unused [] (Err (Use 1))
+    ∷ table_gives (table_of (body 0 ∷ []) (terminal 0 ∷ []) 0) [] passed  -- the byte 0 is no node
+    ∷ table_gives inherits_too [] (Err (Use 1))  -- '3, 4'
+    ∷ table_gives (table_of (inheriting 0 ∷ []) (empty ∷ []) 0) [] (Err Start)
     ∷ []
 
 pub edges : map given cases ≡ map (λ (c : Case). c.expected) cases

@@ -1,5 +1,6 @@
 -- Demand 3 over the whole answer: a table that passes the type check is never STUCK, and the values of a DONE have their declared types, one for
 -- one, and none beside them; a bench run of such a table answers as its display run. Assumes nothing.
+use Rattle.std.specs.Prelude.{Ok, Err}
 use mathlib.Core.Path.{◌≡◌, refl, sym, ap, ◌∙◌}
 use mathlib.Core.Logic.{◌≢◌}
 use mathlib.Core.List.{List, [], ◌∷◌}
@@ -13,8 +14,8 @@ use lib.Seq.{get_or-take, length-take-le}
 use borrow.Author.Tests.{ltb-true, ltb-false, leb-true}
 use Rattle.laws.specs.Smallest.{smallest_all}
 use Rattle.laws.specs.Tests.{both_left}
-use Rattle.grammar.specs.declared.Verdict.{Verdict}
-use Rattle.grammar.specs.declared.Verdict.TheVariants.{Passed, Size, Field, Use, Start, Untyped, Long, Work}
+use Rattle.grammar.specs.declared.Refusal.TheVariants.{Size, Field, Use, Start, Untyped, Long, Work}
+use Rattle.grammar.specs.Form.{Verdict, passed}
 use Rattle.grammar.specs.declared.Ending.{Ending}
 use Rattle.grammar.specs.declared.Ending.TheVariants.{Budget, Deep, Stuck, «Fault» as AtFault}
 use Rattle.grammar.specs.declared.Answer.{Answer}
@@ -27,7 +28,7 @@ use Rattle.grammar.specs.Tree.{Grammar, rule_of, grammar_of}
 use Rattle.grammar.specs.Form.{table_check}
 use Rattle.grammar.specs.Types.{Env, type_number, types_of, type_of, start_env, have_all, typed_after, typed_rule, untyped}
 use Rattle.grammar.specs.Run.{Setting, Applied, failed, ended, out_of_fuel, fresh}
-use Rattle.grammar.specs.Answer.{number, ending_number, type_rules, type_check, check, deepest_visit, run, answered, answer_of, refusal, conclude, setting_of, answer}
+use Rattle.grammar.specs.Answer.{ending_number, type_rules, type_check, check, deepest_visit, run, answered, answer_of, refusal, conclude, setting_of, answer, refusal_number}
 use Rattle.grammar.specs.Demand.{Declared, WellTyped, Demand3}
 use Rattle.grammar.proofs.Facts.{SoundTable, sizes, followed_by_passed, refused_at_passed, sound_of_form, start_inherits_none}
 use Rattle.grammar.proofs.Records.{four_places, rule_right}
@@ -133,30 +134,30 @@ module _ (words literals : List ℕ) where
   ran_well table sound_out = undone words (answer_of out_of_fuel) (omega arith)
 
   -- what is refused says neither DONE nor STUCK
-  concluded_well : (v : Verdict) (ran : Applied) → (v ≡ Passed → WellTyped words (answer_of ran)) → WellTyped words (conclude v ran)
-  unfolding conclude refusal number
-  concluded_well Passed ran h = h refl
-  concluded_well Size ran h = undone words (refusal Size) (omega arith)
-  concluded_well (Field i) ran h = undone words (refusal (Field i)) (omega arith)
-  concluded_well (Use k) ran h = undone words (refusal (Use k)) (omega arith)
-  concluded_well Start ran h = undone words (refusal Start) (omega arith)
-  concluded_well (Untyped r) ran h = undone words (refusal (Untyped r)) (omega arith)
-  concluded_well Long ran h = undone words (refusal Long) (omega arith)
-  concluded_well Work ran h = undone words (refusal Work) (omega arith)
+  concluded_well : (v : Verdict) (ran : Applied) → (v ≡ passed → WellTyped words (answer_of ran)) → WellTyped words (conclude v ran)
+  unfolding conclude refusal refusal_number
+  concluded_well (Ok _) ran h = h refl
+  concluded_well (Err Size) ran h = undone words (refusal Size) (omega arith)
+  concluded_well (Err (Field i)) ran h = undone words (refusal (Field i)) (omega arith)
+  concluded_well (Err (Use k)) ran h = undone words (refusal (Use k)) (omega arith)
+  concluded_well (Err Start) ran h = undone words (refusal Start) (omega arith)
+  concluded_well (Err (Untyped r)) ran h = undone words (refusal (Untyped r)) (omega arith)
+  concluded_well (Err Long) ran h = undone words (refusal Long) (omega arith)
+  concluded_well (Err Work) ran h = undone words (refusal Work) (omega arith)
 
   -- passed by the type check
-  typed_passed : type_check words literals ≡ Passed → (table_check words literals ≡ Passed) × (type_rules words ≡ Passed)
+  typed_passed : type_check words literals ≡ passed → (table_check words literals ≡ passed) × (type_rules words ≡ passed)
   unfolding type_check
   typed_passed e = followed_by_passed (table_check words literals) (type_rules words) e
 
-  run_well : type_check words literals ≡ Passed → (message : List ℕ) (budget : ℕ) → WellTyped words (answer_of (run (setting_of words literals message) budget))
+  run_well : type_check words literals ≡ passed → (message : List ℕ) (budget : ℕ) → WellTyped words (answer_of (run (setting_of words literals message) budget))
   unfolding type_rules
   run_well e message budget =
       let p = typed_passed e in
       let table = sound_of_form words literals p.0 in
       let inherits : (rule_of (grammar_of words) 0).inherited ≡ [] = inherited_types words 0 (some_rule words literals table) ∙ rw (start_inherits_none words literals p.0) in
       ran_well table (run_sound (setting_of words literals message) budget
-      (typed_grammar (grammar_of words) (refused_at_passed Untyped (untyped (grammar_of words)) (λ _. tt) p.1)) inherits)
+      (typed_grammar (grammar_of words) (refused_at_passed Untyped (untyped (grammar_of words)) p.1)) inherits)
 
   -- Demand 3, for every table, message, budget and work area: a display run is never STUCK, and the values of its DONE are as declared
   pub display_well_typed : (message : List ℕ) (budget work_length : ℕ) → WellTyped words (answer Display words literals message budget work_length)
@@ -166,16 +167,16 @@ module _ (words literals : List ℕ) where
       (λ e. run_well (followed_by_passed (type_check words literals) _ e).0 message budget)
 
   -- A bench run of a table that passes the type check is a display run: the same checks, and the same answer, so demand 3 holds of it too
-  pub same_check : type_check words literals ≡ Passed → (message_length work_length : ℕ) → check Bench words literals message_length work_length ≡ check Display words literals message_length work_length
+  pub same_check : type_check words literals ≡ passed → (message_length work_length : ℕ) → check Bench words literals message_length work_length ≡ check Display words literals message_length work_length
   unfolding check
   same_check e message_length work_length = rw (e, (typed_passed e).0)
 
-  pub same_answer : type_check words literals ≡ Passed → (message : List ℕ) (budget work_length : ℕ) →
+  pub same_answer : type_check words literals ≡ passed → (message : List ℕ) (budget work_length : ℕ) →
       answer Bench words literals message budget work_length ≡ answer Display words literals message budget work_length
   unfolding answer
   same_answer e message budget work_length = rw (same_check e (length message) work_length)
 
-  pub bench_well_typed : type_check words literals ≡ Passed → (message : List ℕ) (budget work_length : ℕ) → WellTyped words (answer Bench words literals message budget work_length)
+  pub bench_well_typed : type_check words literals ≡ passed → (message : List ℕ) (budget work_length : ℕ) → WellTyped words (answer Bench words literals message budget work_length)
   bench_well_typed e message budget work_length = rw (same_answer e message budget work_length) (display_well_typed message budget work_length)
 
 pub demand_3 : Demand3

@@ -1,4 +1,5 @@
 -- What the table check gives the readers of a table: its sizes, and the test that each word of a record passes. Assumes nothing.
+use Rattle.std.specs.Prelude.{Ok, Err, ⊤}
 use mathlib.Core.Path.{◌≡◌, refl, subst}
 use mathlib.Core.List.{List, [], ◌∷◌}
 use mathlib.Core.Bool.{Bool, true, false}
@@ -11,57 +12,45 @@ use borrow.Author.Tests.{leb-true, eqb-true, lt-ltb, le-ltb}
 use Rattle.laws.specs.Counting.{smallest_failing}
 use Rattle.laws.specs.Smallest.{smallest_all}
 use Rattle.laws.specs.Tests.{both_left, both_right}
-use Rattle.grammar.specs.declared.Verdict.{Verdict}
-use Rattle.grammar.specs.declared.Verdict.TheVariants.{Passed, Size, Field, Use, Start, Untyped, Long, Work}
+use Rattle.grammar.specs.declared.Refusal.{Refusal}
+use Rattle.grammar.specs.declared.Refusal.TheVariants.{Size, Field, Use, Start}
 use Rattle.grammar.specs.Words.{rule_count, node_count, literal_count, rule_start, node_start, inherited_count}
-use Rattle.grammar.specs.Form.{rule_word_ok, node_word_ok, word_ok, uses, every, size_ok, followed_by, unless_ok, refused_at, size_check, field_check, use_check, start_check, table_check}
+use Rattle.grammar.specs.Form.{rule_word_ok, node_word_ok, word_ok, uses, every, size_ok, followed_by, unless_ok, refused_at, size_check, field_check, use_check, start_check, table_check, Verdict, passed}
 
 -- ════ Checks that passed ════
 
--- every verdict but Passed
+-- every verdict but `passed`
 abbrev pub Refused : Verdict → Type 0
-Refused Passed = ⊥
-Refused Size = Unit {0}
-Refused (Field i) = Unit {0}
-Refused (Use k) = Unit {0}
-Refused Start = Unit {0}
-Refused (Untyped r) = Unit {0}
-Refused Long = Unit {0}
-Refused Work = Unit {0}
+Refused (Ok _) = ⊥
+Refused (Err why) = ⊤
 
-pub not_passed : {A : Type 0} (v : Verdict) → Refused v → v ≡ Passed → A
-not_passed v refused e = absurd (subst Refused e refused)
+pub not_passed : {A : Type 0} (why : Refusal) → Err why ≡ passed → A
+not_passed why e = absurd (subst Refused e tt)
 
-pub followed_by_passed : (v w : Verdict) → followed_by v w ≡ Passed → (v ≡ Passed) × (w ≡ Passed)
-followed_by_passed Passed w e = (refl, e)
-followed_by_passed Size w e = not_passed Size tt e
-followed_by_passed (Field i) w e = not_passed (Field i) tt e
-followed_by_passed (Use k) w e = not_passed (Use k) tt e
-followed_by_passed Start w e = not_passed Start tt e
-followed_by_passed (Untyped r) w e = not_passed (Untyped r) tt e
-followed_by_passed Long w e = not_passed Long tt e
-followed_by_passed Work w e = not_passed Work tt e
+pub followed_by_passed : (v w : Verdict) → followed_by v w ≡ passed → (v ≡ passed) × (w ≡ passed)
+followed_by_passed (Ok _) w e = (refl, e)
+followed_by_passed (Err why) w e = not_passed why e
 
-pub unless_ok_passed : (b : Bool) (v : Verdict) → Refused v → unless_ok b v ≡ Passed → b ≡ true
-unless_ok_passed true v refused e = refl
-unless_ok_passed false v refused e = not_passed v refused e
+pub unless_ok_passed : (b : Bool) (why : Refusal) → unless_ok b why ≡ passed → b ≡ true
+unless_ok_passed true why e = refl
+unless_ok_passed false why e = not_passed why e
 
-pub refused_at_passed : (refusal : ℕ → Verdict) (o : Option ℕ) → ((i : ℕ) → Refused (refusal i)) → refused_at refusal o ≡ Passed → o ≡ none
-refused_at_passed refusal none refused e = refl
-refused_at_passed refusal (some i) refused e = not_passed (refusal i) (refused i) e
+pub refused_at_passed : (refusal : ℕ → Refusal) (o : Option ℕ) → refused_at refusal o ≡ passed → o ≡ none
+refused_at_passed refusal none e = refl
+refused_at_passed refusal (some i) e = not_passed (refusal i) e
 
 -- ════ A table that passes SIZE and FIELD ════
 
 pub record SoundTable (words literals : List ℕ) : Type 0 where
-  pub size : size_check words literals ≡ Passed
-  pub field : field_check words ≡ Passed
+  pub size : size_check words literals ≡ passed
+  pub field : field_check words ≡ passed
 
 module _ (words literals : List ℕ) where
-  module _ (passed : table_check words literals ≡ Passed) where
-    checks_passed : (size_check words literals ≡ Passed) × (field_check words ≡ Passed) × (use_check words ≡ Passed) × (start_check words ≡ Passed)
+  module _ (sound : table_check words literals ≡ passed) where
+    checks_passed : (size_check words literals ≡ passed) × (field_check words ≡ passed) × (use_check words ≡ passed) × (start_check words ≡ passed)
     unfolding table_check
     checks_passed =
-        let a = followed_by_passed (size_check words literals) (followed_by (field_check words) (followed_by (use_check words) (start_check words))) passed in
+        let a = followed_by_passed (size_check words literals) (followed_by (field_check words) (followed_by (use_check words) (start_check words))) sound in
         let b = followed_by_passed (field_check words) (followed_by (use_check words) (start_check words)) a.1 in
         let c = followed_by_passed (use_check words) (start_check words) b.1 in
         (a.0, b.0, c.0, c.1)
@@ -72,11 +61,11 @@ module _ (words literals : List ℕ) where
     -- 'Each node is used exactly once'
     pub used_once : (k : ℕ) → k < node_count words → uses words k ≡ 1
     used_once k h = eqb-true (uses words k) 1 (smallest_all (λ n. eqb (uses words n) 1) 0 (node_count words)
-        (refused_at_passed Use (smallest_failing (λ n. eqb (uses words n) 1) 0 (node_count words)) (λ _. tt) checks_passed.2) k (omega arith) (omega arith))
+        (refused_at_passed Use (smallest_failing (λ n. eqb (uses words n) 1) 0 (node_count words)) checks_passed.2) k (omega arith) (omega arith))
 
     -- rule 0 inherits nothing
     pub start_inherits_none : inherited_count words 0 ≡ 0
-    start_inherits_none = eqb-true (inherited_count words 0) 0 (unless_ok_passed (eqb (inherited_count words 0) 0) Start tt checks_passed.3)
+    start_inherits_none = eqb-true (inherited_count words 0) 0 (unless_ok_passed (eqb (inherited_count words 0) 0) Start checks_passed.3)
 
 -- ════ Sizes ════
 
@@ -104,7 +93,7 @@ sizes words literals table =
     ∷ leb (literal_count words) 4096
     ∷ eqb (length words) (3 + 15 * rule_count words + 10 * node_count words)
     ∷ eqb (length literals) (literal_count words)
-    ∷ []) (unless_ok_passed (size_ok words (length literals)) Size tt table.size) in
+    ∷ []) (unless_ok_passed (size_ok words (length literals)) Size table.size) in
     record {
       some_rule = leb-true 1 (rule_count words) (test 1);
       most_rules = leb-true (rule_count words) 64 (test 2);
@@ -119,7 +108,7 @@ sizes words literals table =
 
 module _ (words literals : List ℕ) (table : SoundTable words literals) where
   word_passes : (i : ℕ) → 3 ≤ i → i < length words → word_ok words i ≡ true
-  word_passes i low high = smallest_all (word_ok words) 3 _ (refused_at_passed Field _ (λ _. tt) table.field) i low (omega arith)
+  word_passes i low high = smallest_all (word_ok words) 3 _ (refused_at_passed Field _ table.field) i low (omega arith)
 
   pub rule_word_lem : (r j : ℕ) → r < rule_count words → j < 15 → rule_word_ok words r j ≡ true
   unfolding word_ok

@@ -1,5 +1,6 @@
 -- The fuel of `apply` is no part of the meaning: with more fuel than visits left it never runs out, and any two such fuels give the same.
 -- Visits stay within the budget, and each match or failure has made at least one. Assumes nothing.
+use Rattle.std.specs.Prelude.{Ok, Err}
 use mathlib.Core.Path.{◌≡◌, refl, sym, ◌∙◌}
 use mathlib.Core.Logic.{◌≢◌}
 use mathlib.Core.List.{List, []}
@@ -10,8 +11,7 @@ use lib.Dec.{T, ltb, leb, ltb→lt}
 use lib.ListN.{length}
 use Rattle.grammar.specs.declared.Ending.{Ending}
 use Rattle.grammar.specs.declared.Mode.{Mode}
-use Rattle.grammar.specs.declared.Verdict.{Verdict}
-use Rattle.grammar.specs.declared.Verdict.TheVariants.{Passed, Size, Field, Use, Start, Untyped, Long, Work}
+use Rattle.grammar.specs.Form.{Verdict}
 use Rattle.grammar.specs.declared.Value.{Value}
 use Rattle.grammar.specs.declared.Value.TheVariants as Val
 use Rattle.grammar.specs.Tree.{Parsing, empty, terminal, sequence, choice, repeat, unless, call, bind, update, constraint}
@@ -268,14 +268,8 @@ answer_of_visits (since_ended t c) = c.1
 
 conclude_visits : (budget : ℕ) (v : Verdict) (r : Applied) → (answer_of r).visits ≤ budget → (conclude v r).visits ≤ budget
 unfolding conclude refusal
-conclude_visits budget Passed r h = h
-conclude_visits budget Size r h = omega arith
-conclude_visits budget (Field i) r h = omega arith
-conclude_visits budget (Use k) r h = omega arith
-conclude_visits budget Start r h = omega arith
-conclude_visits budget (Untyped k) r h = omega arith
-conclude_visits budget Long r h = omega arith
-conclude_visits budget Work r h = omega arith
+conclude_visits budget (Ok _) r h = h
+conclude_visits budget (Err why) r h = omega arith
 
 -- An answer's visits never exceed the budget
 pub answer_visits : (mode : Mode) (words literals message : List ℕ) (budget work_length : ℕ) → (answer mode words literals message budget work_length).visits ≤ budget

@@ -1,5 +1,6 @@
 -- A run goes forward inside the message, keeps the number of its slots, and holds in them only values that are good: of any property that absent
 -- values, Bools, Integers and parts of the message have, where the grammar's Text literals have it. Whatever the grammar. Assumes nothing.
+use Rattle.std.specs.Prelude.{Ok, Err}
 use mathlib.Core.Path.{◌≡◌, refl, ◌∙◌}
 use mathlib.Core.List.{List, [], ◌∷◌, ◌++◌}
 use mathlib.Core.Bool.{Bool, true, false, cond}
@@ -12,15 +13,13 @@ use borrow.Author.Tests.{ltb-true}
 use Rattle.laws.specs.Tests.{both_left}
 use Rattle.grammar.specs.declared.Operator.{Operator}
 use Rattle.grammar.specs.declared.Operator.TheVariants.{Calculate, Equal, Greater, And, Or}
-use Rattle.grammar.specs.declared.Number.{Number}
-use Rattle.grammar.specs.declared.Number.TheVariants.{Is, Not}
 use Rattle.grammar.specs.declared.Ending.{Ending}
 use Rattle.grammar.specs.declared.Span.{Span}
 use Rattle.grammar.specs.declared.Value.{Value}
 use Rattle.grammar.specs.declared.Value.TheVariants as Val
 use Rattle.grammar.specs.Tree.{Expr, bool, integer, text, slot, binary, negation}
 use Rattle.grammar.specs.Tree.{Parsing, empty, terminal, sequence, choice, repeat, unless, call, bind, update, constraint, Grammar, rule_of}
-use Rattle.grammar.specs.Values.{Evaluated, value, ends, after, want_integer, want_bool, want_text, present, number_at, calculated, equal, look_left, operate, negated}
+use Rattle.grammar.specs.Values.{Evaluated, value, ends, after, want_integer, want_bool, want_text, present, number_at, calculated, equal, look_left, operate, negated, Number}
 use Rattle.grammar.specs.Run.{Slots, Setting, Tally, counted, eval, eval_all, Applied, matched, failed, ended, out_of_fuel, next, giving_back, onward, with_value}
 use Rattle.grammar.specs.Run.{judged, fresh, receive, message_part, byte_stands, Application, rounds, Due, fine, no_budget, too_deep, due, returning, visit, admit, apply}
 
@@ -166,8 +165,8 @@ module _ (S : Setting) (Good : Value → Type 0) (goods : Goods S.message Good) 
   present_gives k (Val.Text s) g = gives g
 
   number_at_gives : (k : ℕ) (n : Number) → Gets (number_at k n)
-  number_at_gives k (Is z) = gives (goods.integer z)
-  number_at_gives k (Not why) = ends_here
+  number_at_gives k (Ok z) = gives (goods.integer z)
+  number_at_gives k (Err why) = ends_here
 
   cond_gives : (b : Bool) {x y : Evaluated Value} → Gets x → Gets y → Gets (cond b x y)
   cond_gives true g h = g

@@ -1,5 +1,6 @@
 -- A Text is there with its bytes. In a run of any table of sound form each Text fits the slice it names; what a bind stores are the bytes that its part
 -- consumed; a Text node's bytes are its part of the literals; and two Texts are equal exactly where their bytes are the same. Assumes nothing.
+use Rattle.std.specs.Prelude.{Ok, Err}
 use mathlib.Core.Path.{◌≡◌, refl, sym, ap, subst, ◌∙◌}
 use mathlib.Core.Logic.{◌↔◌}
 use mathlib.Core.List.{List, [], ◌∷◌, map}
@@ -11,8 +12,8 @@ use lib.ListN.{get_or, set, length, take, drop, length-drop, get_or-eq_default}
 use lib.Seq.{get_or-set_same, length-take-le}
 use borrow.Author.Tests.{ltb-true, ltb-false, le-leb, eq-eqb}
 use Rattle.laws.specs.Same.{same, same_equal}
-use Rattle.grammar.specs.declared.Verdict.{Verdict}
-use Rattle.grammar.specs.declared.Verdict.TheVariants.{Passed, Size, Field, Use, Start, Untyped, Long, Work}
+use Rattle.grammar.specs.declared.Refusal.{Refusal}
+use Rattle.grammar.specs.Form.{Verdict, passed}
 use Rattle.grammar.specs.declared.Node.{Node}
 use Rattle.grammar.specs.declared.Node.TheVariants as N
 use Rattle.grammar.specs.declared.Mode.{Mode}
@@ -323,23 +324,17 @@ module _ (words literals message : List ℕ) where
     ran_there (ended why k t) h = answered_there _ k 0 t.visits [] (omega arith) tt
     ran_there out_of_fuel h = answered_there _ 0 0 0 [] (omega arith) tt
 
-  refused_there : (v : Verdict) → TextsThere message literals (refusal v)
+  refused_there : (why : Refusal) → TextsThere message literals (refusal why)
   unfolding refusal
-  refused_there v = answered_there _ _ 0 0 [] (omega arith) tt
+  refused_there why = answered_there _ _ 0 0 [] (omega arith) tt
 
-  concluded_there : (v : Verdict) (ran : Applied) → (v ≡ Passed → TextsThere message literals (answer_of ran)) → TextsThere message literals (conclude v ran)
+  concluded_there : (v : Verdict) (ran : Applied) → (v ≡ passed → TextsThere message literals (answer_of ran)) → TextsThere message literals (conclude v ran)
   unfolding conclude
-  concluded_there Passed ran h = h refl
-  concluded_there Size ran h = refused_there Size
-  concluded_there (Field i) ran h = refused_there (Field i)
-  concluded_there (Use k) ran h = refused_there (Use k)
-  concluded_there Start ran h = refused_there Start
-  concluded_there (Untyped r) ran h = refused_there (Untyped r)
-  concluded_there Long ran h = refused_there Long
-  concluded_there Work ran h = refused_there Work
+  concluded_there (Ok _) ran h = h refl
+  concluded_there (Err why) ran h = refused_there why
 
   -- either mode checks the table's form
-  form_passed : (mode : Mode) → check_for mode words literals ≡ Passed → table_check words literals ≡ Passed
+  form_passed : (mode : Mode) → check_for mode words literals ≡ passed → table_check words literals ≡ passed
   unfolding type_check
   form_passed Bench e = e
   form_passed Display e = (followed_by_passed (table_check words literals) (type_rules words) e).0

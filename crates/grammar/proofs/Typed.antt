@@ -1,5 +1,6 @@
 -- An expression that the type rules give a type is never STUCK, and its value has that type. An unset slot is one of type 0, so slots and types
 -- agree exactly: `types_of slots ≡ env`. Assumes nothing.
+use Rattle.std.specs.Prelude.{Ok, Err}
 use mathlib.Core.Path.{◌≡◌, refl, sym, ◌∙◌}
 use mathlib.Core.List.{List, [], ◌∷◌}
 use mathlib.Core.Bool.{Bool, true, false, cond, ◌&&◌}
@@ -13,15 +14,13 @@ use Rattle.laws.specs.Tests.{never, both_left, both_right}
 use Rattle.grammar.specs.declared.Operator.{Operator}
 use Rattle.grammar.specs.declared.Operator.TheVariants.{Calculate, Equal, Greater, And, Or}
 use Rattle.grammar.specs.declared.Fault.{Fault}
-use Rattle.grammar.specs.declared.Number.{Number}
-use Rattle.grammar.specs.declared.Number.TheVariants.{Is, Not}
 use Rattle.grammar.specs.declared.Ending.TheVariants.{«Fault» as AtFault}
 use Rattle.grammar.specs.declared.Span.{Span}
 use Rattle.grammar.specs.declared.Value.{Value}
 use Rattle.grammar.specs.declared.Value.TheVariants as Val
 use Rattle.grammar.specs.Tree.{Expr, bool, integer, text, slot, binary, negation}
 use Rattle.grammar.specs.Types.{type_number, types_of, if_both, operator_type, expr_type, has, have_all}
-use Rattle.grammar.specs.Values.{Evaluated, value, ends, after, want_integer, want_bool, want_text, integers, present, number_at, calculated, equal, look_left, operate, negated}
+use Rattle.grammar.specs.Values.{Evaluated, value, ends, after, want_integer, want_bool, want_text, integers, present, number_at, calculated, equal, look_left, operate, negated, Number}
 use Rattle.grammar.specs.Run.{Slots, Setting, eval, eval_all}
 
 -- ════ Types that were given ════
@@ -100,8 +99,8 @@ cond_good true g h = g
 cond_good false g h = h
 
 number_at_good : (k : ℕ) (n : Number) → Good 2 (number_at k n)
-number_at_good k (Is z) = good refl
-number_at_good k (Not why) = faulty
+number_at_good k (Ok z) = good refl
+number_at_good k (Err why) = faulty
 
 -- ════ Operators ════
 

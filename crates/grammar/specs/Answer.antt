@@ -1,18 +1,18 @@
 -- The answer for every input (document 01, 'Numbers that come back'): the checks in their order, the run, the record, the work area afterwards.
 -- Assumes nothing.
-use Rattle.std.specs.Prelude.{List, [], ◌++◌, ℕ, suc, leb, get_or, length, drop, replicate}
+use Rattle.std.specs.Prelude.{List, [], ◌∷◌, ◌++◌, Ok, Err, ℕ, suc, leb, get_or, length, drop, replicate}
 use Rattle.grammar.specs.declared.Value.{Value}
 use Rattle.grammar.specs.declared.Value.TheVariants as Val
 use Rattle.grammar.specs.declared.Ending.{Ending}
 use Rattle.grammar.specs.declared.Ending.TheVariants.{Budget, Deep, Stuck, «Fault» as AtFault}
-use Rattle.grammar.specs.declared.Verdict.{Verdict}
-use Rattle.grammar.specs.declared.Verdict.TheVariants.{Passed, Size, Field, Use, Start, Untyped, Long, Work}
+use Rattle.grammar.specs.declared.Refusal.{Refusal}
+use Rattle.grammar.specs.declared.Refusal.TheVariants.{Size, Field, Use, Start, Untyped, Long, Work}
 use Rattle.grammar.specs.declared.Answer.{Answer}
 use Rattle.grammar.specs.declared.Mode.{Mode}
 use Rattle.grammar.specs.declared.Mode.TheVariants.{Bench, Display}
 use Rattle.grammar.specs.Numbers.{DONE, SIZE, FIELD, USE, START, TYPE, LONG, WORK, NOMATCH, BUDGET, DEEP, STUCK, FAULT}
 use Rattle.grammar.specs.Tree.{rule_of, grammar_of}
-use Rattle.grammar.specs.Form.{followed_by, unless_ok, refused_at, table_check}
+use Rattle.grammar.specs.Form.{Verdict, followed_by, unless_ok, refused_at, table_check}
 use Rattle.grammar.specs.Types.{untyped}
 use Rattle.grammar.specs.Run.{Setting, Applied, matched, failed, ended, out_of_fuel, onward, with_value, eval_all, fresh, apply}
 
@@ -26,25 +26,31 @@ deepest_visit = 256
 
 -- ════ Document 01's number and place for each case ════
 
+unfoldable pub refusal_number : Refusal → ℕ
+refusal_number Size = SIZE
+refusal_number (Field i) = FIELD
+refusal_number (Use k) = USE
+refusal_number Start = START
+refusal_number (Untyped r) = TYPE
+refusal_number Long = LONG
+refusal_number Work = WORK
+
+unfoldable pub refusal_place : Refusal → ℕ
+refusal_place Size = 0
+refusal_place (Field i) = i
+refusal_place (Use k) = k
+refusal_place Start = 0
+refusal_place (Untyped r) = r
+refusal_place Long = 0
+refusal_place Work = 0
+
 unfoldable pub number : Verdict → ℕ
-number Passed = DONE
-number Size = SIZE
-number (Field i) = FIELD
-number (Use k) = USE
-number Start = START
-number (Untyped r) = TYPE
-number Long = LONG
-number Work = WORK
+number (Ok _) = DONE
+number (Err refusal) = refusal_number refusal
 
 unfoldable pub place : Verdict → ℕ
-place Passed = 0
-place Size = 0
-place (Field i) = i
-place (Use k) = k
-place Start = 0
-place (Untyped r) = r
-place Long = 0
-place Work = 0
+place (Ok _) = 0
+place (Err refusal) = refusal_place refusal
 
 unfoldable pub ending_number : Ending → ℕ
 ending_number Budget = BUDGET
@@ -84,17 +90,18 @@ run S budget =
 
 -- ════ The answer record ════
 
--- number, place, consumed, visits, four values: 'Values past m are absent'
+-- 'Values past m are absent'
+abbrev pub four_of : List Value → List Value
+four_of values = get_or values 0 Val.Absent ∷ get_or values 1 Val.Absent ∷ get_or values 2 Val.Absent ∷ get_or values 3 Val.Absent ∷ []
+
+-- number, place, consumed, visits, four values
 abbrev pub answered : (number place consumed visits : ℕ) → List Value → Answer
 answered number place consumed visits values = record {
   number = number;
   place = place;
   consumed = consumed;
   visits = visits;
-  value0 = get_or values 0 Val.Absent;
-  value1 = get_or values 1 Val.Absent;
-  value2 = get_or values 2 Val.Absent;
-  value3 = get_or values 3 Val.Absent;
+  values = four_of values;
 }
 
 -- 'Consumed and values are zero or absent unless DONE'. A run never comes to out_of_fuel (proofs/Fuel.antt): it has a number that document 01 has not
@@ -105,18 +112,12 @@ answer_of (ended why k t) = answered (ending_number why) k 0 t.visits []
 answer_of out_of_fuel = answered 255 0 0 0 []
 
 -- 'visits are 0 unless the answer is 0 or 8 to 12'
-unfoldable pub refusal : Verdict → Answer
-refusal v = answered (number v) (place v) 0 0 []
+unfoldable pub refusal : Refusal → Answer
+refusal why = answered (refusal_number why) (refusal_place why) 0 0 []
 
 unfoldable pub conclude : Verdict → Applied → Answer
-conclude Passed ran = answer_of ran
-conclude Size ran = refusal Size
-conclude (Field i) ran = refusal (Field i)
-conclude (Use k) ran = refusal (Use k)
-conclude Start ran = refusal Start
-conclude (Untyped r) ran = refusal (Untyped r)
-conclude Long ran = refusal Long
-conclude Work ran = refusal Work
+conclude (Ok _) ran = answer_of ran
+conclude (Err why) ran = refusal why
 
 abbrev pub setting_of : (words literals message : List ℕ) → Setting
 setting_of words literals message = record { grammar = grammar_of words; message = message; literals = literals }
@@ -134,14 +135,8 @@ zeroed work = replicate work_words 0 ++ drop work_words work
 
 -- 'Answers 1 to 7 change no memory'
 unfoldable pub left_after : Verdict → List ℕ → List ℕ
-left_after Passed work = zeroed work
-left_after Size work = work
-left_after (Field i) work = work
-left_after (Use k) work = work
-left_after Start work = work
-left_after (Untyped r) work = work
-left_after Long work = work
-left_after Work work = work
+left_after (Ok _) work = zeroed work
+left_after (Err why) work = work
 
 unfoldable pub work_after : Mode → (words literals message work : List ℕ) → List ℕ
 work_after mode words literals message work = left_after (check mode words literals (length message) (length work)) work

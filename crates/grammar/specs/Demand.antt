@@ -1,6 +1,7 @@
 -- Demand 3: 'A table that passes the type check never gets STUCK, and on DONE the declared values are there, one for one, with their types'. What it
 -- says of an answer stands here; proofs/Demand.antt shows it, and proofs/Texts.antt that a Text's bytes are those that were meant. Assumes nothing.
-use Rattle.std.specs.Prelude.{◌≡◌, ◌≢◌, List, [], ◌∷◌, ℕ, ◌+◌, ◌<◌, ◌≤◌, get_or, length}
+use Rattle.grammar.specs.Form.{passed}
+use Rattle.std.specs.Prelude.{◌≡◌, ◌≢◌, List, ℕ, ◌+◌, ◌<◌, ◌≤◌, get_or, length}
 use Rattle.grammar.specs.declared.Answer.{Answer}
 use Rattle.grammar.specs.declared.Span.{Span}
 use Rattle.grammar.specs.declared.Value.{Value}
@@ -8,14 +9,13 @@ use Rattle.grammar.specs.declared.Value.TheVariants as Val
 use Rattle.grammar.specs.Numbers.{DONE, STUCK}
 use Rattle.grammar.specs.Words.{rule_word, returned_count}
 use Rattle.grammar.specs.Types.{type_number}
-use Rattle.grammar.specs.declared.Verdict.TheVariants.{Passed}
 use Rattle.grammar.specs.declared.Mode.{Mode}
 use Rattle.grammar.specs.declared.Mode.TheVariants.{Bench, Display}
 use Rattle.grammar.specs.Values.{slice_of}
 use Rattle.grammar.specs.Answer.{type_check, answer}
 
 abbrev pub values_of : Answer → List Value
-values_of a = a.value0 ∷ a.value1 ∷ a.value2 ∷ a.value3 ∷ []
+values_of a = a.values
 
 -- value i of the record
 abbrev pub value_at : Answer → ℕ → Value
@@ -41,5 +41,5 @@ pub record TextsThere (message literals : List ℕ) (a : Answer) : Type 0 where
 -- the type check; and a Text has its bytes in every run, also in a bench run of a table that doesn't pass
 pub record Demand3 : Type 0 where
   pub of_display : (words literals message : List ℕ) (budget work_length : ℕ) → WellTyped words (answer Display words literals message budget work_length)
-  pub of_bench : (words literals message : List ℕ) (budget work_length : ℕ) → type_check words literals ≡ Passed → WellTyped words (answer Bench words literals message budget work_length)
+  pub of_bench : (words literals message : List ℕ) (budget work_length : ℕ) → type_check words literals ≡ passed → WellTyped words (answer Bench words literals message budget work_length)
   pub of_texts : (mode : Mode) (words literals message : List ℕ) (budget work_length : ℕ) → TextsThere message literals (answer mode words literals message budget work_length)

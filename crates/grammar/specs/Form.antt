@@ -1,9 +1,9 @@
 -- The table check: SIZE, FIELD, USE, START (document 01, 'Words of a table' and 'Numbers that come back'). Assumes nothing.
-use Rattle.std.specs.Prelude.{List, [], ◌∷◌, Bool, true, false, cond, ◌&&◌, ◌||◌, ℕ, ◌+◌, ◌*◌, ◌-◌, ◌/◌, ◌%◌, ltb, leb, eqb, get_or, length}
+use Rattle.std.specs.Prelude.{List, [], ◌∷◌, Result, Ok, Err, ⊤, Bool, true, false, cond, ◌&&◌, ◌||◌, ℕ, ◌+◌, ◌*◌, ◌-◌, ◌/◌, ◌%◌, ltb, leb, eqb, get_or, length}
 use Rattle.std.proofs.Math.Option.{Option, none, some}
 use Rattle.laws.specs.Counting.{smallest_failing, how_many}
-use Rattle.grammar.specs.declared.Verdict.{Verdict}
-use Rattle.grammar.specs.declared.Verdict.TheVariants.{Passed, Size, Field, Use, Start, Untyped, Long, Work}
+use Rattle.grammar.specs.declared.Refusal.{Refusal}
+use Rattle.grammar.specs.declared.Refusal.TheVariants.{Size, Field, Use, Start}
 use Rattle.grammar.specs.Words.{word, rule_count, node_count, literal_count, node_start, rule_word, node_word, inherited_count, returned_count, kind_at}
 
 -- ════ 'What each kind expects in its nine fields is one constant table over the kinds' ════
@@ -183,24 +183,25 @@ module _ (words : List ℕ) where
 
 -- ════ The table check ════
 
+-- what a check answers: passed, or the refusal and its place
+abbrev pub Verdict : Type 0
+Verdict = Result ⊤ Refusal
+
+abbrev pub passed : Verdict
+passed = Ok tt
+
 -- a check comes after another
 abbrev pub followed_by : Verdict → Verdict → Verdict
-followed_by Passed later = later
-followed_by Size later = Size
-followed_by (Field i) later = Field i
-followed_by (Use k) later = Use k
-followed_by Start later = Start
-followed_by (Untyped r) later = Untyped r
-followed_by Long later = Long
-followed_by Work later = Work
+followed_by (Ok _) later = later
+followed_by (Err refusal) later = Err refusal
 
-abbrev pub unless_ok : Bool → Verdict → Verdict
-unless_ok true refusal = Passed
-unless_ok false refusal = refusal
+abbrev pub unless_ok : Bool → Refusal → Verdict
+unless_ok true refusal = passed
+unless_ok false refusal = Err refusal
 
-abbrev pub refused_at : (ℕ → Verdict) → Option ℕ → Verdict
-refused_at refusal none = Passed
-refused_at refusal (some place) = refusal place
+abbrev pub refused_at : (ℕ → Refusal) → Option ℕ → Verdict
+refused_at refusal none = passed
+refused_at refusal (some place) = Err (refusal place)
 
 unfoldable pub every : List Bool → Bool
 every [] = true

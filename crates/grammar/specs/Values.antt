@@ -1,6 +1,6 @@
 -- Values: 32-bit arithmetic, the bytes of a Text, equality, and what an expression's operators make of them (document 01, 'Running').
 -- Assumes nothing.
-use Rattle.std.specs.Prelude.{List, [], Bool, true, false, cond, not, ℕ, zero, suc, ◌+◌, leb, eqb, ℤ, pos, negsuc, ◌+ℤ◌, ◌-ℤ◌, ◌*ℤ◌, length, take, drop}
+use Rattle.std.specs.Prelude.{List, [], Result, Ok, Err, Bool, true, false, cond, not, ℕ, zero, suc, ◌+◌, leb, eqb, ℤ, pos, negsuc, ◌+ℤ◌, ◌-ℤ◌, ◌*ℤ◌, length, take, drop}
 use Rattle.std.specs.Bool.{beq}
 use Rattle.std.specs.Int.Signed.{lt_z, quot_z}
 use Rattle.laws.specs.Same.{same}
@@ -8,9 +8,8 @@ use Rattle.grammar.specs.declared.Arithmetic.{Arithmetic}
 use Rattle.grammar.specs.declared.Arithmetic.TheVariants.{Add, Subtract, Multiply, Divide}
 use Rattle.grammar.specs.declared.Operator.{Operator}
 use Rattle.grammar.specs.declared.Operator.TheVariants.{Calculate, Equal, Greater, And, Or}
+use Rattle.grammar.specs.declared.Fault.{Fault}
 use Rattle.grammar.specs.declared.Fault.TheVariants.{Overflow, ZeroDivisor}
-use Rattle.grammar.specs.declared.Number.{Number}
-use Rattle.grammar.specs.declared.Number.TheVariants.{Is, Not}
 use Rattle.grammar.specs.declared.Ending.{Ending}
 use Rattle.grammar.specs.declared.Ending.TheVariants.{Stuck, «Fault» as AtFault}
 use Rattle.grammar.specs.declared.Span.{Span}
@@ -19,6 +18,10 @@ use Rattle.grammar.specs.declared.Value.TheVariants as Val
 
 -- ════ 32-bit arithmetic ════
 
+-- what arithmetic gives: a number, or why there is none
+abbrev pub Number : Type 0
+Number = Result ℤ Fault
+
 -- signed 32-bit numbers are -2147483648 to 2147483647; `negsuc n` is -(n + 1)
 abbrev pub signed32 : ℤ → Bool
 signed32 (pos n) = leb n 2147483647
@@ -26,11 +29,11 @@ signed32 (negsuc n) = leb (n + 1) 2147483648
 
 -- '32-bit overflow' is FAULT
 unfoldable pub fitting : ℤ → Number
-fitting z = cond (signed32 z) (Is z) (Not Overflow)
+fitting z = cond (signed32 z) (Ok z) (Err Overflow)
 
 -- 'zero divisor' is FAULT; 'Negative division drops the fraction, toward zero'
 unfoldable pub quotient : ℤ → ℤ → Number
-quotient a (pos zero) = Not ZeroDivisor
+quotient a (pos zero) = Err ZeroDivisor
 quotient a (pos (suc b)) = fitting (quot_z a (pos (suc b)))
 quotient a (negsuc b) = fitting (quot_z a (negsuc b))
 
@@ -112,8 +115,8 @@ present k (Val.Integer z) = value (Val.Integer z)
 present k (Val.Text s) = value (Val.Text s)
 
 abbrev pub number_at : ℕ → Number → Evaluated Value
-number_at k (Is z) = value (Val.Integer z)
-number_at k (Not why) = ends (AtFault why) k
+number_at k (Ok z) = value (Val.Integer z)
+number_at k (Err why) = ends (AtFault why) k
 
 abbrev pub truth : Bool → Evaluated Value
 truth b = value (Val.Bool b)

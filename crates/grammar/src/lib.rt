@@ -44,13 +44,6 @@ pub enum Fault {
     ZeroDivisor,
 }
 
-// What arithmetic gives.
-#[derive(Clone, Copy)]
-pub enum Number {
-    Is(i32),
-    Not(Fault),
-}
-
 // A node record, as code sees it: parts are node numbers. A kind that document 01 has no row for is Unknown.
 #[derive(Clone, Copy)]
 pub enum Node {
@@ -73,10 +66,9 @@ pub enum Node {
     Negation(u16),
 }
 
-// What the checks before a run answer: passed, or the refusal and its place.
+// Why the checks before a run refuse, and at which place.
 #[derive(Clone, Copy)]
-pub enum Verdict {
-    Passed,
+pub enum Refusal {
     Size,
     Field(u16),
     Use(u16),
@@ -95,6 +87,21 @@ pub enum Ending {
     Fault(Fault),
 }
 
+// A run that ends at once: why, and at which node.
+#[derive(Clone, Copy)]
+pub struct Ended {
+    pub why: Ending,
+    pub node: u16,
+}
+
+// What a run reads: a table's words and literals, and the message. They travel together through every function of a run.
+#[derive(Clone, Copy)]
+pub struct Inputs<'a> {
+    pub words: &'a [u16],
+    pub literals: &'a [u8],
+    pub message: &'a [u8],
+}
+
 // "The answer record: number, place, consumed, visits, four values": by value, with enum values.
 #[derive(Clone, Copy)]
 pub struct Answer {
@@ -102,10 +109,7 @@ pub struct Answer {
     pub place: u32,
     pub consumed: u32,
     pub visits: u32,
-    pub value0: Value,
-    pub value1: Value,
-    pub value2: Value,
-    pub value3: Value,
+    pub values: [Value; 4],
 }
 
 // A bench run takes any table of sound form; a display run only one that passes the type rules.

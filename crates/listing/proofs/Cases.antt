@@ -1,5 +1,6 @@
 -- Listings byte by byte: cases that the prover computes, written out from document 01, 'Listing and console'. The laws of Exactly tie reading to writing; a slip made
 -- alike in both is refused here alone. Assumes nothing.
+use Rattle.std.proofs.Common.{Ok, Err}
 use mathlib.Core.Path.{◌≡◌, refl}
 use mathlib.Core.List.{List, [], ◌∷◌, ◌++◌, map}
 use Prim.Native.Nat.{ℕ, ◌+◌, ◌-◌}
@@ -8,14 +9,12 @@ use Rattle.laws.specs.Stores.{over}
 use Rattle.grammar.specs.Form.{every, size_ok}
 use Rattle.text.specs.Written as T
 use Rattle.text.specs.Found as F
-use Rattle.listing.specs.declared.Reading.{Reading}
-use Rattle.listing.specs.declared.Reading.TheVariants as R
-use Rattle.listing.specs.declared.Writing.{Writing}
-use Rattle.listing.specs.declared.Writing.TheVariants as W
+use Rattle.listing.specs.declared.Unread.TheVariants.{Line, Room}
+use Rattle.listing.specs.declared.Unwritten.TheVariants.{Size, Out}
 use Rattle.listing.specs.Listing.{ending, numbers, line, record_lines, literals_line, head_lines, body_lines, listing}
-use Rattle.listing.specs.Reading.{numbers_at, line_at, lines_at, count_at, literals_at, head_at, body_at, filled, read_rest, read_from, read}
+use Rattle.listing.specs.Reading.{Reading, done, numbers_at, line_at, lines_at, count_at, literals_at, head_at, body_at, filled, read_rest, read_from, read}
 use Rattle.listing.specs.Plain.{first_lines}
-use Rattle.listing.specs.Writing.{written, write}
+use Rattle.listing.specs.Writing.{Writing, written, write}
 use Rattle.listing.specs.Answers.{reading_number, reading_place, reading_words, reading_literals, writing_number, writing_place, writing_length}
 
 -- ════ Lines ════
@@ -114,47 +113,47 @@ abbrev lent : ℕ → List ℕ
 lent n = replicate n 7
 
 -- room for the text, and for two bytes more: 'fills just the text', 'success tells the lengths'
-pub writes : write words_a [] (lent (length text_a + 2)) ≡ written (W.Done (length text_a)) (text_a ++ lent 2)
+pub writes : write words_a [] (lent (length text_a + 2)) ≡ written (Ok (length text_a)) (text_a ++ lent 2)
 unfolding write over every size_ok listing head_lines body_lines literals_line record_lines line numbers ending T.hex T.hex_digit T.decimal T.digits
 writes = refl
 
-pub writes_with_literals : write words_l (10 ∷ 255 ∷ []) (lent (length text_l)) ≡ written (W.Done (length text_l)) text_l
+pub writes_with_literals : write words_l (10 ∷ 255 ∷ []) (lent (length text_l)) ≡ written (Ok (length text_l)) text_l
 unfolding write over every size_ok listing head_lines body_lines literals_line record_lines line numbers ending T.hex T.hex_digit T.decimal T.digits
 writes_with_literals = refl
 
 -- a byte too few: 'OUT', and 'A refusal writes nothing'
-pub writes_nothing : write words_a [] (lent (length text_a - 1)) ≡ written W.Out (lent (length text_a - 1))
+pub writes_nothing : write words_a [] (lent (length text_a - 1)) ≡ written (Err Out) (lent (length text_a - 1))
 unfolding write over every size_ok listing head_lines body_lines literals_line record_lines line numbers ending T.hex T.hex_digit T.decimal T.digits
 writes_nothing = refl
 
 -- 'the writer refuses SIZE, then OUT'
-pub refuses_size_first : write (1 ∷ []) [] [] ≡ written W.Size []
+pub refuses_size_first : write (1 ∷ []) [] [] ≡ written (Err Size) []
 unfolding write over every size_ok listing head_lines body_lines literals_line record_lines line numbers ending T.hex T.hex_digit T.decimal T.digits
 refuses_size_first = refl
 
 -- ════ What is read ════
 
 -- room for just the table
-pub reads : read text_a (lent 48) [] ≡ filled (R.Done 48 0) words_a []
+pub reads : read text_a (lent 48) [] ≡ filled (done 48 0) words_a []
 unfolding read_from read_rest head_at body_at count_at literals_at lines_at line_at numbers_at ending over F.after_key F.number F.number_from F.grown F.digit F.pairs F.pair_value F.hex_value
 reads = refl
 
 -- room for more: 'fills just the words and literals of the table', 'success tells the lengths'
-pub reads_with_literals : read text_l (lent 30) (lent 3) ≡ filled (R.Done 28 2) (words_l ++ lent 2) (10 ∷ 255 ∷ 7 ∷ [])
+pub reads_with_literals : read text_l (lent 30) (lent 3) ≡ filled (done 28 2) (words_l ++ lent 2) (10 ∷ 255 ∷ 7 ∷ [])
 unfolding read_from read_rest head_at body_at count_at literals_at lines_at line_at numbers_at ending over F.after_key F.number F.number_from F.grown F.digit F.pairs F.pair_value F.hex_value
 reads_with_literals = refl
 
 -- a word too few, a literal too few: 'ROOM', and 'A refusal writes nothing'
-pub no_room : read text_a (lent 47) (lent 1) ≡ filled R.Room (lent 47) (lent 1)
+pub no_room : read text_a (lent 47) (lent 1) ≡ filled (Err Room) (lent 47) (lent 1)
 unfolding read_from read_rest head_at body_at count_at literals_at lines_at line_at numbers_at ending over F.after_key F.number F.number_from F.grown F.digit F.pairs F.pair_value F.hex_value
 no_room = refl
 
-pub no_room_for_literals : read text_l (lent 28) (lent 1) ≡ filled R.Room (lent 28) (lent 1)
+pub no_room_for_literals : read text_l (lent 28) (lent 1) ≡ filled (Err Room) (lent 28) (lent 1)
 unfolding read_from read_rest head_at body_at count_at literals_at lines_at line_at numbers_at ending over F.after_key F.number F.number_from F.grown F.digit F.pairs F.pair_value F.hex_value
 no_room_for_literals = refl
 
 -- 'ROOM is judged after line 3': with no room, and line 3 wrong; with no room, and line 4 missing
-pub room_after_line_3 : map (λ (l : List ℕ). (read l [] []).answer) ((rules_a ++ nodes_a) ∷ head_a ∷ []) ≡ R.Line 3 ∷ R.Room ∷ []
+pub room_after_line_3 : map (λ (l : List ℕ). (read l [] []).answer) ((rules_a ++ nodes_a) ∷ head_a ∷ []) ≡ Err (Line 3) ∷ Err Room ∷ []
 unfolding read_from read_rest head_at body_at count_at literals_at lines_at line_at numbers_at ending over F.after_key F.number F.number_from F.grown F.digit F.pairs F.pair_value F.hex_value
 room_after_line_3 = refl
 
@@ -162,7 +161,7 @@ room_after_line_3 = refl
 abbrev answer_to : List ℕ → Reading
 answer_to text = (read text (lent 48) []).answer
 
-pub a_wrong_line_writes_nothing : read head_a (lent 48) (lent 1) ≡ filled (R.Line 4) (lent 48) (lent 1)
+pub a_wrong_line_writes_nothing : read head_a (lent 48) (lent 1) ≡ filled (Err (Line 4)) (lent 48) (lent 1)
 unfolding read_from read_rest head_at body_at count_at literals_at lines_at line_at numbers_at ending over F.after_key F.number F.number_from F.grown F.digit F.pairs F.pair_value F.hex_value
 a_wrong_line_writes_nothing = refl
 
@@ -170,17 +169,17 @@ a_wrong_line_writes_nothing = refl
 pub missing_lines :
     map answer_to
     ((head_a ++ (rule_a ++ (node0 ++ node1))) ∷ (head_a ++ (rule_a ++ node0)) ∷ (head_a ++ rule_a) ∷ head_a ∷ (rules_a ++ nodes_a) ∷ rules_a ∷ [] ∷ [])
-    ≡ R.Line 7 ∷ R.Line 6 ∷ R.Line 5 ∷ R.Line 4 ∷ R.Line 3 ∷ R.Line 2 ∷ R.Line 1 ∷ []
+    ≡ Err (Line 7) ∷ Err (Line 6) ∷ Err (Line 5) ∷ Err (Line 4) ∷ Err (Line 3) ∷ Err (Line 2) ∷ Err (Line 1) ∷ []
 unfolding read_from read_rest head_at body_at count_at literals_at lines_at line_at numbers_at ending over F.after_key F.number F.number_from F.grown F.digit F.pairs F.pair_value F.hex_value
 missing_lines = refl
 
 -- a listing that stands from place 2 on, its first line having the number 4
-pub lines_from_4 : map (λ (l : List ℕ). (read_from l 2 4 (lent 48) []).answer) ((lent 2 ++ text_a) ∷ (lent 2 ++ head_a) ∷ []) ≡ R.Done 48 0 ∷ R.Line 7 ∷ []
+pub lines_from_4 : map (λ (l : List ℕ). (read_from l 2 4 (lent 48) []).answer) ((lent 2 ++ text_a) ∷ (lent 2 ++ head_a) ∷ []) ≡ done 48 0 ∷ Err (Line 7) ∷ []
 unfolding read_from read_rest head_at body_at count_at literals_at lines_at line_at numbers_at ending over F.after_key F.number F.number_from F.grown F.digit F.pairs F.pair_value F.hex_value
 lines_from_4 = refl
 
 -- 'Bytes past the last line count as one more line, which is wrong': a byte 10, a node more
-pub bytes_past : map answer_to ((text_a ++ (10 ∷ [])) ∷ (text_a ++ node2) ∷ []) ≡ R.Line 8 ∷ R.Line 8 ∷ []
+pub bytes_past : map answer_to ((text_a ++ (10 ∷ [])) ∷ (text_a ++ node2) ∷ []) ≡ Err (Line 8) ∷ Err (Line 8) ∷ []
 unfolding read_from read_rest head_at body_at count_at literals_at lines_at line_at numbers_at ending over F.after_key F.number F.number_from F.grown F.digit F.pairs F.pair_value F.hex_value
 bytes_past = refl
 
@@ -211,7 +210,7 @@ nodes1025 = 110 ∷ 111 ∷ 100 ∷ 101 ∷ 115 ∷ 61 ∷ 49 ∷ 48 ∷ 50 ∷ 
 -- 'Head values keep SIZE's ranges, else LINE'; a value that is right, and then nothing: the next line is the wrong one
 pub head_ranges :
     map answer_to (rules0 ∷ rules65 ∷ rules64 ∷ (rules64 ++ nodes0) ∷ (rules64 ++ nodes1025) ∷ (rules64 ++ nodes1024) ∷ [])
-    ≡ R.Line 1 ∷ R.Line 1 ∷ R.Line 2 ∷ R.Line 2 ∷ R.Line 2 ∷ R.Line 3 ∷ []
+    ≡ Err (Line 1) ∷ Err (Line 1) ∷ Err (Line 2) ∷ Err (Line 2) ∷ Err (Line 2) ∷ Err (Line 3) ∷ []
 unfolding read_from read_rest head_at body_at count_at literals_at lines_at line_at numbers_at ending over F.after_key F.number F.number_from F.grown F.digit F.pairs F.pair_value F.hex_value
 head_ranges = refl
 
@@ -220,7 +219,7 @@ abbrev literals_of : ℕ → List ℕ
 literals_of n = 108 ∷ 105 ∷ 116 ∷ 101 ∷ 114 ∷ 97 ∷ 108 ∷ 115 ∷ 61 ∷ (replicate (n + n) 48 ++ (10 ∷ []))
 
 -- 4,096 literal bytes, for which there is no room; 4,097, which are too many
-pub literal_range : map answer_to ((rules_a ++ (nodes_a ++ literals_of 4096)) ∷ (rules_a ++ (nodes_a ++ literals_of 4097)) ∷ []) ≡ R.Room ∷ R.Line 3 ∷ []
+pub literal_range : map answer_to ((rules_a ++ (nodes_a ++ literals_of 4096)) ∷ (rules_a ++ (nodes_a ++ literals_of 4097)) ∷ []) ≡ Err Room ∷ Err (Line 3) ∷ []
 unfolding read_from read_rest head_at body_at count_at literals_at lines_at line_at numbers_at ending over F.after_key F.number F.number_from F.grown F.digit F.pairs F.pair_value F.hex_value
 literal_range = refl
 
@@ -247,17 +246,17 @@ rule_zero = 114 ∷ 117 ∷ 108 ∷ 101 ∷ 61 ∷ 48 ∷ 48 ∷ 32 ∷ 48 ∷ 3
 -- 'R lines `rule=` with 15 numbers', 'Decimals 0 to 65535, no leading zero, single spaces': line 4 is wrong; so is a line `node=` in its place, and one without byte 10
 pub wrong_numbers :
     map (λ (l : List ℕ). answer_to (head_a ++ l)) (rule65536 ∷ rule_without ∷ rule_more ∷ rule_wide ∷ rule_zero ∷ node0 ∷ take 34 rule_a ∷ [])
-    ≡ R.Line 4 ∷ R.Line 4 ∷ R.Line 4 ∷ R.Line 4 ∷ R.Line 4 ∷ R.Line 4 ∷ R.Line 4 ∷ []
+    ≡ Err (Line 4) ∷ Err (Line 4) ∷ Err (Line 4) ∷ Err (Line 4) ∷ Err (Line 4) ∷ Err (Line 4) ∷ Err (Line 4) ∷ []
 unfolding read_from read_rest head_at body_at count_at literals_at lines_at line_at numbers_at ending over F.after_key F.number F.number_from F.grown F.digit F.pairs F.pair_value F.hex_value
 wrong_numbers = refl
 
 -- ════ Numbers that come back ════
 
 abbrev readings : List Reading
-readings = R.Done 5 6 ∷ R.Line 7 ∷ R.Room ∷ []
+readings = done 5 6 ∷ Err (Line 7) ∷ Err Room ∷ []
 
 abbrev writings : List Writing
-writings = W.Done 5 ∷ W.Size ∷ W.Out ∷ []
+writings = Ok 5 ∷ Err Size ∷ Err Out ∷ []
 
 -- 0 DONE, 20 LINE, 21 ROOM; 1 SIZE, 22 OUT
 pub reading_numbers : map reading_number readings ≡ 0 ∷ 20 ∷ 21 ∷ []

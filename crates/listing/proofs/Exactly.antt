@@ -1,5 +1,6 @@
 -- The listing of a table reads back as that table; the plain meaning of reading; and each accepted listing is written again byte for byte.
 -- Assumes nothing.
+use Rattle.std.proofs.Common.{Result, Ok, Err}
 use mathlib.Core.Path.{◌≡◌, refl, sym, ap, ◌∙◌, subst}
 use mathlib.Core.Logic.{◌⊎◌, inl, inr, ⊎_elim}
 use mathlib.Core.List.{List, [], ◌∷◌, ◌++◌, append-nil}
@@ -15,15 +16,11 @@ use Rattle.laws.specs.Parts.{Stands, stands, stands_as, stands_then, stands_firs
 use Rattle.laws.specs.Stores.{over}
 use Rattle.grammar.specs.Words.{rule_count, node_count}
 use Rattle.text.specs.Stored.{Taken, taking}
-use Rattle.listing.specs.declared.reader.Lines.{Lines}
-use Rattle.listing.specs.declared.reader.Lines.TheVariants as L
 use Rattle.listing.specs.declared.reader.Head.{Head}
-use Rattle.listing.specs.declared.reader.Head.TheVariants as H
-use Rattle.listing.specs.declared.Reading.TheVariants.{Done, Line, Room}
-use Rattle.listing.specs.declared.Writing.TheVariants.{Done as Wrote}
+use Rattle.listing.specs.declared.Unread.TheVariants.{Line, Room}
 use Rattle.listing.specs.Listing.{line, head_lines, body_lines, listing}
-use Rattle.listing.specs.Reading.{head_at, body_at, on_head, on_lines, Filled, filled, fill, refused, read_body, read_rest, read_from}
-use Rattle.listing.specs.Answers.{reading_number, reading_place}
+use Rattle.listing.specs.Reading.{done, Lines, head_of, head_at, body_at, on_head, on_lines, Filled, filled, fill, refused, read_body, read_rest, read_from}
+use Rattle.listing.specs.Answers.{reading_number, reading_place, reading_words, reading_literals}
 use Rattle.listing.specs.Writing.{write, written}
 use Rattle.listing.specs.Plain.{Table, Listed, AcceptedExactly, first_lines, FirstWrong, IsListing, NoRoom, RoomExactly, LineExactly, Judged, is_listed, has_no_room, is_wrong_at}
 use Rattle.laws.specs.Range.{within_right}
@@ -62,7 +59,7 @@ whole_stands text at part q s e =
 -- the first three lines
 head_reads : (text : List ℕ) (at first : ℕ) (table_words table_literals : List ℕ) (p : ℕ) → Table table_words table_literals
     → Stands text at (head_lines table_words table_literals) p
-    → head_at text first at ≡ taking table_literals (H.Is (rule_count table_words) (node_count table_words) (length table_literals) p)
+    → head_at text first at ≡ taking table_literals (Ok (head_of (rule_count table_words) (node_count table_words) (length table_literals) p))
 unfolding head_lines
 head_reads text at first table_words table_literals p t w =
     let s : Sized table_words (length table_literals) = size_facts table_words (length table_literals) t.size in
@@ -90,16 +87,16 @@ module _ (text : List ℕ) (at first : ℕ) (words literals table_words table_li
       let body : List ℕ = body_lines r k table_words in
       let w : Stands text at (head ++ body) (length text) = stands_whole text at (head ++ body) (listing_some table_words table_literals) l.is in
       let p : ℕ = at + length head in
-      let a : head_at text first at ≡ taking table_literals (H.Is r k n p) =
+      let a : head_at text first at ≡ taking table_literals (Ok (head_of r k n p)) =
       head_reads text at first table_words table_literals p l.table (stands_first head body w) in
-      let b : body_at text r k (first + 3) p ≡ taking (drop 3 table_words) (L.At (length text)) =
+      let b : body_at text r k (first + 3) p ≡ taking (drop 3 table_words) (Ok (length text)) =
       body_back text r k (drop 3 table_words) (first + 3) p (omega (arith, s.words_are, length-drop 3 table_words))
       (below_drop 65536 3 table_words l.table.words_fit) (stands_as (body_words r k table_words) (stands_second head body w)) in
       let t : r ∷ k ∷ n ∷ drop 3 table_words ≡ table_words =
       ap (λ (z : ℕ). r ∷ k ∷ z ∷ drop 3 table_words) s.literals_are ∙ sym (three_words table_words s.three) in
       rw a
       (roomy r k n p table_literals (omega (arith, s.words_are, l.word_room)) l.literal_room
-      ∙ ap (λ (z : Taken Lines). on_lines (λ m. refused text first words literals (Line m)) (λ q. fill (r ∷ k ∷ n ∷ z.numbers) table_literals words literals) z.found) b
+      ∙ ap (λ (z : Taken Lines). on_lines (λ m. refused text first words literals (Err (Line m))) (λ q. fill (r ∷ k ∷ n ∷ z.numbers) table_literals words literals) z.found) b
       ∙ ap (λ (z : List ℕ). fill z table_literals words literals) t)
 
 -- ════ Room ════
@@ -107,15 +104,15 @@ module _ (text : List ℕ) (at first : ℕ) (words literals table_words table_li
 module _ (text : List ℕ) (at first : ℕ) (words literals : List ℕ) where
   -- what the first three lines say of a table that has them
   begun : (table_words table_literals : List ℕ) → Table table_words table_literals → first_lines 3 (listing table_words table_literals) ≡ first_lines 3 (drop at text)
-      → (p : ℕ) × ((head_at text first at).found ≡ H.Is (rule_count table_words) (node_count table_words) (length table_literals) p)
+      → (p : ℕ) × ((head_at text first at).found ≡ Ok (head_of (rule_count table_words) (node_count table_words) (length table_literals) p))
   unfolding listing
   begun table_words table_literals t e =
       let head : List ℕ = head_lines table_words table_literals in
       let p : ℕ = at + length head in
       let b = whole_begins (head_whole table_words table_literals) (drop at text) (body_lines (rule_count table_words) (node_count table_words) table_words) (sym e) in
-      (p, ap (λ (z : Taken Head). z.found) (head_reads text at first table_words table_literals p t (stands text at head b.0 p b.1 refl)))
+      (p, ap (λ (z : Taken (Result Head ℕ)). z.found) (head_reads text at first table_words table_literals p t (stands text at head b.0 p b.1 refl)))
 
-  module _ (r k n p : ℕ) (found : (head_at text first at).found ≡ H.Is r k n p) where
+  module _ (r k n p : ℕ) (found : (head_at text first at).found ≡ Ok (head_of r k n p)) where
     -- a table of zeros has these lines
     no_room : (length words < 3 + 15 * r + 10 * k) ⊎ (length literals < n) → NoRoom (drop at text) words literals
     unfolding listing head_lines
@@ -137,10 +134,10 @@ module _ (text : List ℕ) (at first : ℕ) (words literals : List ℕ) where
     enough h g x =
         let s = size_facts x.table_words (length x.table_literals) x.table.size in
         let b = begun x.table_words x.table_literals x.table x.begins in
-        let e : H.Is r k n p ≡ H.Is (rule_count x.table_words) (node_count x.table_words) (length x.table_literals) b.0 = sym found ∙ b.1 in
-        let i : r ≡ rule_count x.table_words = cc in
-        let j : k ≡ node_count x.table_words = cc in
-        let l : n ≡ length x.table_literals = cc in
+        let e : Ok (head_of r k n p) ≡ Ok (head_of (rule_count x.table_words) (node_count x.table_words) (length x.table_literals) b.0) = sym found ∙ b.1 in
+        let i : r ≡ rule_count x.table_words = ap (on_head (λ z. 0) (λ a b c d. a)) e in
+        let j : k ≡ node_count x.table_words = ap (on_head (λ z. 0) (λ a b c d. b)) e in
+        let l : n ≡ length x.table_literals = ap (on_head (λ z. 0) (λ a b c d. c)) e in
         ⊎_elim (λ u. omega (arith, s.words_are)) (λ u. omega arith) x.longer
 
 -- ════ Every text is judged ════
@@ -155,16 +152,16 @@ each_judged text at first words literals = heads (head_at text first at).found r
     Goal : Filled → Type 0
     Goal result = Judged text at first words literals result
 
-    told : (x : ℕ) → from_head text at first (head_at text first at).found ≡ L.Wrong x → (NoRoom (drop at text) words literals → ⊥)
-        → Goal (refused text first words literals (Line x))
+    told : (x : ℕ) → from_head text at first (head_at text first at).found ≡ Err x → (NoRoom (drop at text) words literals → ⊥)
+        → Goal (refused text first words literals (Err (Line x)))
     told x e room =
         let t = line_told text at first x e in
-        is_wrong_at t.0 t.2 room (ap (λ (z : ℕ). filled (Line z) words literals) t.1)
+        is_wrong_at t.0 t.2 room (ap (λ (z : ℕ). filled (Err (Line z)) words literals) t.1)
 
-    lines : (r k l p : ℕ) (s : Lines) → (head_at text first at).found ≡ H.Is r k l p → (body_at text r k (first + 3) p).found ≡ s
+    lines : (r k l p : ℕ) (s : Lines) → (head_at text first at).found ≡ Ok (head_of r k l p) → (body_at text r k (first + 3) p).found ≡ s
         → 3 + 15 * r + 10 * k ≤ length words → l ≤ length literals
-        → Goal (on_lines (λ x. refused text first words literals (Line x)) (λ q. fill (r ∷ k ∷ l ∷ (body_at text r k (first + 3) p).numbers) table_literals words literals) s)
-    lines r k l p (L.At q) f g h i =
+        → Goal (on_lines (λ x. refused text first words literals (Err (Line x))) (λ q. fill (r ∷ k ∷ l ∷ (body_at text r k (first + 3) p).numbers) table_literals words literals) s)
+    lines r k l p (Ok q) f g h i =
         let a = head_found text first at r k l p f in
         let b = body_found text r k (first + 3) p q g in
         let ws : List ℕ = r ∷ k ∷ l ∷ (body_at text r k (first + 3) p).numbers in
@@ -176,19 +173,20 @@ each_judged text at first words literals = heads (head_at text first at).found r
           word_room = omega (arith, b.count);
           literal_room = omega (arith, a.count);
         }) refl
-    lines r k l p (L.Wrong x) f g h i = told x (ap (from_head text at first) f ∙ g) (enough text at first words literals r k l p f h i)
+    lines r k l p (Err x) f g h i = told x (ap (from_head text at first) f ∙ g) (enough text at first words literals r k l p f h i)
 
-    rooms : (r k l p : ℕ) (s t : Bool) → (head_at text first at).found ≡ H.Is r k l p → ltb (length words) (3 + 15 * r + 10 * k) ≡ s → ltb (length literals) l ≡ t
-        → Goal (cond s (refused text first words literals Room) (cond t (refused text first words literals Room) (read_body text first words literals r k l p table_literals)))
+    rooms : (r k l p : ℕ) (s t : Bool) → (head_at text first at).found ≡ Ok (head_of r k l p) → ltb (length words) (3 + 15 * r + 10 * k) ≡ s → ltb (length literals) l ≡ t
+        → Goal (cond s (refused text first words literals (Err Room)) (cond t (refused text first words literals (Err Room)) (read_body text first words literals r k l p table_literals)))
     rooms r k l p true t f g h = has_no_room (no_room text at first words literals r k l p f (inl (ltb-true (length words) (3 + 15 * r + 10 * k) g))) refl
     rooms r k l p false true f g h = has_no_room (no_room text at first words literals r k l p f (inr (ltb-true (length literals) l h))) refl
     rooms r k l p false false f g h =
         lines r k l p (body_at text r k (first + 3) p).found f refl (ltb-false (length words) (3 + 15 * r + 10 * k) g) (ltb-false (length literals) l h)
 
-    heads : (s : Head) → (head_at text first at).found ≡ s
-        → Goal (on_head (λ x. refused text first words literals (Line x)) (λ r k l p. read_rest text first words literals r k l p table_literals) s)
-    heads (H.Is r k l p) f = rooms r k l p (ltb (length words) (3 + 15 * r + 10 * k)) (ltb (length literals) l) f refl refl
-    heads (H.Wrong x) f =
+    heads : (s : Result Head ℕ) → (head_at text first at).found ≡ s
+        → Goal (on_head (λ x. refused text first words literals (Err (Line x))) (λ r k l p. read_rest text first words literals r k l p table_literals) s)
+    heads (Ok h) f =
+        rooms h.rules h.nodes h.literals h.next (ltb (length words) (3 + 15 * h.rules + 10 * h.nodes)) (ltb (length literals) h.literals) f refl refl
+    heads (Err x) f =
         told x (ap (from_head text at first) f) (λ n.
         let b = begun text at first words literals n.table_words n.table_literals n.table n.begins in
         let e = sym f ∙ b.1 in
@@ -202,11 +200,11 @@ pub record Accepted (text : List ℕ) (at first : ℕ) (words literals : List �
   pub listed : Listed text at words literals table_words table_literals
   pub result_is : result ≡ fill table_words table_literals words literals
 
-pub accepted : (text : List ℕ) (at first : ℕ) (words literals : List ℕ) (m n : ℕ) → (read_from text at first words literals).answer ≡ Done m n
+pub accepted : (text : List ℕ) (at first : ℕ) (words literals : List ℕ) (m n : ℕ) → (read_from text at first words literals).answer ≡ done m n
     → Accepted text at first words literals (read_from text at first words literals)
 accepted text at first words literals m n e = go (read_from text at first words literals) (each_judged text at first words literals) e
   where
-    go : (f : Filled) → Judged text at first words literals f → f.answer ≡ Done m n → Accepted text at first words literals f
+    go : (f : Filled) → Judged text at first words literals f → f.answer ≡ done m n → Accepted text at first words literals f
     go f (is_listed w l x i) g = record { table_words = w; table_literals = l; listed = x; result_is = i }
     go f (has_no_room x i) g = let z : ◌≡◌ {A = ℕ} 0 1 = cc in absurd (omega arith)
     go f (is_wrong_at k x y i) g = let z : ◌≡◌ {A = ℕ} 0 1 = cc in absurd (omega arith)
@@ -222,15 +220,16 @@ pub front_is : (a b l : List ℕ) → length a ≡ length b → over a l ≡ ove
 front_is a b l n e = sym (over_front a l) ∙ ap (take (length a)) e ∙ ap (λ (z : ℕ). take z (over b l)) n ∙ over_front b l
 
 pub accepted_exactly : AcceptedExactly
+unfolding reading_words reading_literals
 accepted_exactly text at first words literals table_words table_literals = (only, reads_back text at first words literals table_words table_literals)
   where
     only : read_from text at first words literals ≡ fill table_words table_literals words literals → Listed text at words literals table_words table_literals
     only e =
         let a = accepted text at first words literals (length table_words) (length table_literals) (ap (λ (z : Filled). z.answer) e) in
         let f : fill a.table_words a.table_literals words literals ≡ fill table_words table_literals words literals = sym a.result_is ∙ e in
-        let g : Done (length a.table_words) (length a.table_literals) ≡ Done (length table_words) (length table_literals) = ap (λ (z : Filled). z.answer) f in
-        let m : length a.table_words ≡ length table_words = cc in
-        let n : length a.table_literals ≡ length table_literals = cc in
+        let g : done (length a.table_words) (length a.table_literals) ≡ done (length table_words) (length table_literals) = ap (λ (z : Filled). z.answer) f in
+        let m : length a.table_words ≡ length table_words = ap reading_words g in
+        let n : length a.table_literals ≡ length table_literals = ap reading_literals g in
         let x : a.table_words ≡ table_words = front_is a.table_words table_words words m (ap (λ (z : Filled). z.words) f) in
         let y : a.table_literals ≡ table_literals = front_is a.table_literals table_literals literals n (ap (λ (z : Filled). z.literals) f) in
         subst (λ (z : List ℕ). Listed text at words literals table_words z) y
@@ -244,15 +243,15 @@ pub room_exactly : RoomExactly
 unfolding reading_number
 room_exactly text at first words literals = (λ e. there (read_from text at first words literals) (each_judged text at first words literals) e, back)
   where
-    there : (f : Filled) → Judged text at first words literals f → f ≡ filled Room words literals → NoRoom (drop at text) words literals
+    there : (f : Filled) → Judged text at first words literals f → f ≡ filled (Err Room) words literals → NoRoom (drop at text) words literals
     there f (has_no_room x i) e = x
     there f (is_listed w l x i) e = apart i e (λ z. omega arith)
     there f (is_wrong_at n x y i) e = apart i e (λ z. omega arith)
 
-    back : NoRoom (drop at text) words literals → read_from text at first words literals ≡ filled Room words literals
+    back : NoRoom (drop at text) words literals → read_from text at first words literals ≡ filled (Err Room) words literals
     back x = go (read_from text at first words literals) (each_judged text at first words literals)
       where
-        go : (f : Filled) → Judged text at first words literals f → f ≡ filled Room words literals
+        go : (f : Filled) → Judged text at first words literals f → f ≡ filled (Err Room) words literals
         go f (has_no_room y i) = i
         go f (is_listed w l y i) =
             let s = size_facts w (length l) y.table.size in
@@ -262,12 +261,12 @@ room_exactly text at first words literals = (λ e. there (read_from text at firs
         go f (is_wrong_at n y room i) = absurd (room x)
 
 -- the line that is told, whatever its number
-pub told : (text : List ℕ) (at first m : ℕ) (words literals : List ℕ) → read_from text at first words literals ≡ filled (Line m) words literals
+pub told : (text : List ℕ) (at first m : ℕ) (words literals : List ℕ) → read_from text at first words literals ≡ filled (Err (Line m)) words literals
     → (n : ℕ) × (m ≡ first + n) × FirstWrong IsListing (drop at text) n × (NoRoom (drop at text) words literals → ⊥)
 unfolding reading_number reading_place
 told text at first m words literals = go (read_from text at first words literals) (each_judged text at first words literals)
   where
-    go : (f : Filled) → Judged text at first words literals f → f ≡ filled (Line m) words literals
+    go : (f : Filled) → Judged text at first words literals f → f ≡ filled (Err (Line m)) words literals
         → (n : ℕ) × (m ≡ first + n) × FirstWrong IsListing (drop at text) n × (NoRoom (drop at text) words literals → ⊥)
     go f (is_wrong_at n x room i) e = (n, ap (λ (z : Filled). reading_place z.answer) (sym e ∙ i), x, room)
     go f (has_no_room x i) e = apart i e (λ z. omega arith)
@@ -276,7 +275,7 @@ told text at first m words literals = go (read_from text at first words literals
 pub line_exactly : LineExactly
 line_exactly text at first n words literals = (there, λ x. back x.0 x.1)
   where
-    there : read_from text at first words literals ≡ filled (Line (first + n)) words literals
+    there : read_from text at first words literals ≡ filled (Err (Line (first + n))) words literals
         → FirstWrong IsListing (drop at text) n × (NoRoom (drop at text) words literals → ⊥)
     there e =
         let t = told text at first (first + n) words literals e in
@@ -284,13 +283,13 @@ line_exactly text at first n words literals = (there, λ x. back x.0 x.1)
         (subst (FirstWrong IsListing (drop at text)) i t.2, t.3)
 
     back : FirstWrong IsListing (drop at text) n → (NoRoom (drop at text) words literals → ⊥)
-        → read_from text at first words literals ≡ filled (Line (first + n)) words literals
+        → read_from text at first words literals ≡ filled (Err (Line (first + n))) words literals
     back x room = go (read_from text at first words literals) (each_judged text at first words literals)
       where
-        go : (f : Filled) → Judged text at first words literals f → f ≡ filled (Line (first + n)) words literals
+        go : (f : Filled) → Judged text at first words literals f → f ≡ filled (Err (Line (first + n))) words literals
         go f (is_wrong_at m y r i) =
             let j : m ≡ n = omega (arith, one_first m n y x, one_first n m x y) in
-            i ∙ ap (λ (z : ℕ). filled (Line (first + z)) words literals) j
+            i ∙ ap (λ (z : ℕ). filled (Err (Line (first + z))) words literals) j
         go f (has_no_room y i) = absurd (room y)
         go f (is_listed w l y i) = absurd (x.none_right (drop at text) (record { table_words = w; table_literals = l; table = y.table; is = y.is }) refl)
 
@@ -305,17 +304,17 @@ after_third {text} n x f =
 -- ════ Each accepted listing is written again byte for byte ════
 
 -- `out` is a slice with room for the listing
-pub written_again : (text : List ℕ) (at first : ℕ) (words literals out : List ℕ) (m n : ℕ) → (read_from text at first words literals).answer ≡ Done m n
+pub written_again : (text : List ℕ) (at first : ℕ) (words literals out : List ℕ) (m n : ℕ) → (read_from text at first words literals).answer ≡ done m n
     → length (drop at text) ≤ length out
     → write (take m (read_from text at first words literals).words) (take n (read_from text at first words literals).literals) out
-    ≡ written (Wrote (length (drop at text))) (over (drop at text) out)
-unfolding write
+    ≡ written (Ok (length (drop at text))) (over (drop at text) out)
+unfolding write reading_words reading_literals
 written_again text at first words literals out m n e h =
     let a = accepted text at first words literals m n e in
     let l = a.listed in
-    let g : Done m n ≡ Done (length a.table_words) (length a.table_literals) = sym e ∙ ap (λ (z : Filled). z.answer) a.result_is in
-    let i : m ≡ length a.table_words = cc in
-    let j : n ≡ length a.table_literals = cc in
+    let g : done m n ≡ done (length a.table_words) (length a.table_literals) = sym e ∙ ap (λ (z : Filled). z.answer) a.result_is in
+    let i : m ≡ length a.table_words = ap reading_words g in
+    let j : n ≡ length a.table_literals = ap reading_literals g in
     let x : take m (read_from text at first words literals).words ≡ a.table_words =
     ap (λ (z : Filled). take m z.words) a.result_is ∙ ap (λ (z : ℕ). take z (over a.table_words words)) i ∙ over_front a.table_words words in
     let y : take n (read_from text at first words literals).literals ≡ a.table_literals =

@@ -10,8 +10,8 @@ use Rattle.grammar.specs.Words.{rule_count, node_count, rule_start}
 use Rattle.table.proofs.Size.{Sized, size_facts, size_right}
 use Rattle.listing.specs.Listing.{rules_key, nodes_key, rule_key, node_key, line, record_lines, literals_line, head_lines, body_lines, listing}
 use Rattle.listing.specs.Plain.{Table, IsListing}
-use Rattle.listing.proofs.Whole.{records_front}
-use Rattle.listing.proofs.Stopping.{Line-then, End, Some, some_line}
+use Rattle.listing.proofs.Lines.{records_front}
+use Rattle.listing.proofs.Stopping.{Line-then, End, SomeText, some_line}
 
 -- ════ What a line may say ════
 
@@ -53,20 +53,20 @@ zeros_fit (suc n) = (omega arith, zeros_fit n)
 pub zeros_length : (n : ℕ) → length (zeros n) ≡ n
 zeros_length n = length-replicate {A = ℕ} n 0
 
-pub some_records : (key : List ℕ) (width count : ℕ) {Rest : List ℕ → Type 0} → Some Rest → Some (Records key width count Rest)
+pub some_records : (key : List ℕ) (width count : ℕ) {Rest : List ℕ → Type 0} → SomeText Rest → SomeText (Records key width count Rest)
 some_records key width zero s = s
 some_records key width (suc count) s = some_line (zeros width) (zeros_length width, zeros_fit width) (some_records key width count s)
 
-pub some_nodes : (nodes : ℕ) → Some (Records node_key 10 nodes End)
+pub some_nodes : (nodes : ℕ) → SomeText (Records node_key 10 nodes End)
 some_nodes nodes = some_records node_key 10 nodes ([], refl)
 
-pub some_third : (rules nodes : ℕ) → Some (FromThird rules nodes)
+pub some_third : (rules nodes : ℕ) → SomeText (FromThird rules nodes)
 some_third rules nodes = some_line [] (omega arith, tt) (some_records rule_key 15 rules (some_nodes nodes))
 
-pub some_second : (rules : ℕ) → Some (FromSecond rules)
+pub some_second : (rules : ℕ) → SomeText (FromSecond rules)
 some_second rules = some_line 1 (omega arith, omega arith) (some_third rules 1)
 
-pub some_first : Some FromFirst
+pub some_first : SomeText FromFirst
 some_first = some_line 1 (omega arith, omega arith) (some_second 1)
 
 -- ════ Such lines are a listing ════
@@ -153,7 +153,7 @@ lines_listing text r =
           ∙ regroup one two three x y ∙ ap (λ (z : List ℕ). (one ++ (two ++ three)) ++ z) (sym body);
     }
 
-pub some_listing : Some IsListing
+pub some_listing : SomeText IsListing
 some_listing = (some_first.0, lines_listing some_first.0 some_first.1)
 
 -- ════ And a listing is such lines ════

@@ -1,12 +1,12 @@
 -- Where a text stops being right, line after line: at a line that no right text has there, or past the last one. Assumes nothing.
+use Rattle.std.proofs.Common.{Ok, Err}
 use mathlib.Core.Path.{◌≡◌, refl, sym, ap, ◌∙◌, subst}
 use mathlib.Core.List.{List, [], ◌++◌}
 use Prim.Native.Nat.{ℕ, suc, ◌+◌, ◌≤◌, ◌<◌}
 use native.Mathlib.Omega.{arith}
 use lib.ListN.{length, drop, length-append, length-drop}
 use Rattle.laws.specs.Parts.{Stands, stands}
-use Rattle.listing.specs.declared.reader.Lines.{Lines}
-use Rattle.listing.specs.declared.reader.Lines.TheVariants as L
+use Rattle.listing.specs.Reading.{Lines}
 use Rattle.listing.specs.Plain.{first_lines, FirstWrong}
 use Rattle.listing.proofs.FirstLines.{first_fewer, first_none, Whole, whole_begins, whole_next, whole_same, whole_some}
 
@@ -24,11 +24,11 @@ pub record Line-then {A : Type 0} (spell : A → List ℕ) (Right : A → Type 0
 abbrev pub End : List ℕ → Type 0
 End text = text ≡ []
 
-abbrev pub Some : (List ℕ → Type 0) → Type 0
-Some Right = (t : List ℕ) × Right t
+abbrev pub SomeText : (List ℕ → Type 0) → Type 0
+SomeText Right = (t : List ℕ) × Right t
 
-pub some_line : {A : Type 0} {spell : A → List ℕ} {Right : A → Type 0} {Rest : A → List ℕ → Type 0} (a : A) → Right a → Some (Rest a)
-    → Some (Line-then spell Right Rest)
+pub some_line : {A : Type 0} {spell : A → List ℕ} {Right : A → Type 0} {Rest : A → List ℕ → Type 0} (a : A) → Right a → SomeText (Rest a)
+    → SomeText (Line-then spell Right Rest)
 some_line {A} {spell} a r (t, g) = (spell a ++ t, record { says = a; right = r; rest = t; is = refl; follows = g })
 
 -- ════ The first wrong line ════
@@ -47,15 +47,15 @@ one_first {Right} {text} m n f g h =
 
 -- if a line is told, it is the first wrong one, the text's lines having numbers from `first` on
 abbrev pub Told : (Right : List ℕ → Type 0) (text : List ℕ) (first : ℕ) → Lines → Type 0
-Told Right text first (L.At q) = Unit {0}
-Told Right text first (L.Wrong m) = (n : ℕ) × (m ≡ first + n) × FirstWrong Right text n
+Told Right text first (Ok q) = Unit {0}
+Told Right text first (Err m) = (n : ℕ) × (m ≡ first + n) × FirstWrong Right text n
 
 -- ════ Stops ════
 
 module _ {A : Type 0} {spell : A → List ℕ} {Right : A → Type 0} {Rest : A → List ℕ → Type 0} (whole : (a : A) → Right a → Whole 1 (spell a)) where
   -- the text has no such line
-  pub stops_here : (text : List ℕ) (p first : ℕ) → Some (Line-then spell Right Rest) → ((a : A) (q : ℕ) → Right a → Stands text p (spell a) q → ⊥)
-      → Told (Line-then spell Right Rest) (drop p text) first (L.Wrong first)
+  pub stops_here : (text : List ℕ) (p first : ℕ) → SomeText (Line-then spell Right Rest) → ((a : A) (q : ℕ) → Right a → Stands text p (spell a) q → ⊥)
+      → Told (Line-then spell Right Rest) (drop p text) first (Err first)
   unfolding first_lines
   stops_here text p first s none = (
     0,
@@ -100,12 +100,12 @@ module _ {A : Type 0} {spell : A → List ℕ} {Right : A → Type 0} {Rest : A 
           omega (arith, s.place, whole_some (spell a) (whole a r), length-drop p text, length-drop q text, length-append (spell a) (drop q text), ap length s.is)
 
       go : (f : Lines) → Told (Rest a) (drop q text) (first + 1) f → Told (Line-then spell Right Rest) (drop p text) first f
-      go (L.At x) h = tt
-      go (L.Wrong m) (n, e, f) =
+      go (Ok x) h = tt
+      go (Err m) (n, e, f) =
           (n + 1, omega arith, subst (λ (z : List ℕ). FirstWrong (Line-then spell Right Rest) z (n + 1)) (sym s.is) (later a (drop q text) n r same f))
 
 -- bytes past the last line
-pub stops_past : (text : List ℕ) (p first : ℕ) → p ≤ length text → (p ≡ length text → ⊥) → Told End (drop p text) first (L.Wrong first)
+pub stops_past : (text : List ℕ) (p first : ℕ) → p ≤ length text → (p ≡ length text → ⊥) → Told End (drop p text) first (Err first)
 unfolding first_lines
 stops_past text p first h not = (
   0,

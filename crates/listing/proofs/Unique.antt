@@ -2,10 +2,8 @@
 use mathlib.Core.Path.{◌≡◌, sym, ap, ◌∙◌}
 use mathlib.Core.List.{List}
 use Prim.Native.Nat.{ℕ}
-use Rattle.listing.specs.declared.Reading.{Reading}
-use Rattle.listing.specs.declared.Writing.{Writing}
-use Rattle.listing.specs.Reading.{Filled, filled, read_from}
-use Rattle.listing.specs.Writing.{Written, written, write}
+use Rattle.listing.specs.Reading.{Reading, Filled, filled, read_from}
+use Rattle.listing.specs.Writing.{Writing, Written, written, write}
 
 -- `read_from`, and `read`, its case at place 0 and line 1: the answer and what the two slices hold then
 pub read_unique : (text : List ℕ) (at first : ℕ) (words literals : List ℕ) {r₁ r₂ : Reading} {w₁ w₂ l₁ l₂ : List ℕ}

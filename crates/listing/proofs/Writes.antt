@@ -1,4 +1,5 @@
 -- The writer's answers: what its two passes leave is what Writing.antt says. Assumes nothing.
+use Rattle.std.proofs.Common.{Ok, Err}
 use mathlib.Core.Path.{◌≡◌, ap, ◌∙◌}
 use mathlib.Core.List.{List, [], ◌++◌}
 use mathlib.Core.Bool.{true, false}
@@ -11,14 +12,14 @@ use Rattle.laws.specs.Stores.{sets_front, over}
 use Rattle.grammar.specs.Form.{size_ok}
 use Rattle.text.specs.Stored.{Wrote}
 use Rattle.text.proofs.Writing.{nothing_stored}
-use Rattle.listing.specs.declared.Writing.TheVariants.{Done, Size, Out}
+use Rattle.listing.specs.declared.Unwritten.TheVariants.{Size, Out}
 use Rattle.listing.specs.Listing.{listing}
 use Rattle.listing.specs.Writing.{write, written}
 use Rattle.table.proofs.Size.{size_facts}
 use Rattle.listing.proofs.Lines.{listing_most}
 
 module _ (words literals text : List ℕ) where
-  pub write_size : size_ok words (length literals) ≡ false → written Size text ≡ write words literals text
+  pub write_size : size_ok words (length literals) ≡ false → written (Err Size) text ≡ write words literals text
   unfolding write
   write_size e = rw e
 
@@ -29,13 +30,13 @@ module _ (words literals text : List ℕ) where
     same : length (x ++ text) ≡ length text
     same = ap length (nothing_stored w text)
 
-    pub write_out : length (x ++ text) < n → written Out (x ++ text) ≡ write words literals text
+    pub write_out : length (x ++ text) < n → written (Err Out) (x ++ text) ≡ write words literals text
     unfolding write
     write_out h =
         rw (e, lt-leb (length (listing words literals)) (length text) (omega (arith, measured, same)))
-        (ap (written Out) (nothing_stored w text))
+        (ap (written (Err Out)) (nothing_stored w text))
 
-    pub write_done : {after : List ℕ} → n ≤ length (x ++ text) → after ≡ sets (x ++ text) 0 (listing words literals) → written (Done n) after ≡ write words literals text
+    pub write_done : {after : List ℕ} → n ≤ length (x ++ text) → after ≡ sets (x ++ text) 0 (listing words literals) → written (Ok n) after ≡ write words literals text
     unfolding write
     write_done {after} h f =
         let g : length (listing words literals) ≤ length text = omega (arith, measured, same) in

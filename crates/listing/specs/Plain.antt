@@ -1,9 +1,9 @@
 -- The plain meaning of reading, beside the line by line one of Reading.antt: which texts are accepted, when ROOM comes, and which line is told of any
 -- other text. proofs/Exactly.antt proves all of it. Assumes nothing.
-use Rattle.std.specs.Prelude.{◌≡◌, ◌≢◌, ◌↔◌, ◌⊎◌, List, [], ◌∷◌, true, cond, ℕ, zero, suc, ◌+◌, ◌≤◌, ◌<◌, eqb, length, drop}
+use Rattle.std.specs.Prelude.{Err, ◌≡◌, ◌≢◌, ◌↔◌, ◌⊎◌, List, [], ◌∷◌, true, cond, ℕ, zero, suc, ◌+◌, ◌≤◌, ◌<◌, eqb, length, drop}
 use Rattle.laws.specs.Below.{AllBelow}
 use Rattle.grammar.specs.Form.{size_ok}
-use Rattle.listing.specs.declared.Reading.TheVariants.{Line, Room}
+use Rattle.listing.specs.declared.Unread.TheVariants.{Line, Room}
 use Rattle.listing.specs.Listing.{listing}
 use Rattle.listing.specs.Reading.{Filled, filled, fill, read_from}
 
@@ -62,20 +62,20 @@ pub record NoRoom (text words literals : List ℕ) : Type 0 where
 abbrev pub RoomExactly : Type 0
 RoomExactly =
     (text : List ℕ) (at first : ℕ) (words literals : List ℕ)
-    → (read_from text at first words literals ≡ filled Room words literals) ↔ NoRoom (drop at text) words literals
+    → (read_from text at first words literals ≡ filled (Err Room) words literals) ↔ NoRoom (drop at text) words literals
 
 -- 'listing line wrong or missing', 'its number, from 1' (`first`, in general). Where there is no room the first three lines are right (`after_third`
 -- in proofs/Exactly.antt): so a wrong one among these is told whatever the slices are, and any after them given room
 abbrev pub LineExactly : Type 0
 LineExactly =
     (text : List ℕ) (at first n : ℕ) (words literals : List ℕ)
-    → (read_from text at first words literals ≡ filled (Line (first + n)) words literals)
+    → (read_from text at first words literals ≡ filled (Err (Line (first + n))) words literals)
     ↔ (FirstWrong IsListing (drop at text) n × (NoRoom (drop at text) words literals → ⊥))
 
 -- one of the three comes, so that the three statements together leave no text out
 pub data Judged (text : List ℕ) (at first : ℕ) (words literals : List ℕ) (result : Filled) : Type 0 where
   is_listed : (table_words table_literals : List ℕ) → Listed text at words literals table_words table_literals → result ≡ fill table_words table_literals words literals
       → Judged text at first words literals result
-  has_no_room : NoRoom (drop at text) words literals → result ≡ filled Room words literals → Judged text at first words literals result
-  is_wrong_at : (n : ℕ) → FirstWrong IsListing (drop at text) n → (NoRoom (drop at text) words literals → ⊥) → result ≡ filled (Line (first + n)) words literals
+  has_no_room : NoRoom (drop at text) words literals → result ≡ filled (Err Room) words literals → Judged text at first words literals result
+  is_wrong_at : (n : ℕ) → FirstWrong IsListing (drop at text) n → (NoRoom (drop at text) words literals → ⊥) → result ≡ filled (Err (Line (first + n))) words literals
       → Judged text at first words literals result

@@ -1,10 +1,14 @@
 -- What the writer answers, and what the text's slice holds then (document 01, 'Listing and console'). Assumes nothing.
-use Rattle.std.specs.Prelude.{List, cond, ℕ, leb, length}
+use Rattle.std.specs.Prelude.{Result, Ok, Err, List, cond, ℕ, leb, length}
 use Rattle.laws.specs.Stores.{over}
 use Rattle.grammar.specs.Form.{size_ok}
-use Rattle.listing.specs.declared.Writing.{Writing}
-use Rattle.listing.specs.declared.Writing.TheVariants.{Done, Size, Out}
+use Rattle.listing.specs.declared.Unwritten.{Unwritten}
+use Rattle.listing.specs.declared.Unwritten.TheVariants.{Size, Out}
 use Rattle.listing.specs.Listing.{listing}
+
+-- what the writer answers: how many bytes it wrote, or the refusal
+abbrev pub Writing : Type 0
+Writing = Result ℕ Unwritten
 
 pub record Written : Type 0 where
   pub answer : Writing
@@ -18,6 +22,6 @@ unfoldable pub write : (words literals text : List ℕ) → Written
 write words literals text =
     cond (size_ok words (length literals))
     (cond (leb (length (listing words literals)) (length text))
-    (written (Done (length (listing words literals))) (over (listing words literals) text))
-    (written Out text))
-    (written Size text)
+    (written (Ok (length (listing words literals))) (over (listing words literals) text))
+    (written (Err Out) text))
+    (written (Err Size) text)

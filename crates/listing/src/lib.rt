@@ -7,40 +7,46 @@ ghost use Rattle.listing.specs.Writing.{write, written};
 ghost use Rattle.listing.specs.Reading.{read_from, read, filled};
 
 mod reader;
+mod records;
 mod writer;
 
-use crate::reader::{Head, Lines};
+use crate::records::{NODES, RULES};
 
-// What the writer answers: how many bytes it wrote, or the refusal.
+// What the writer refuses.
 #[derive(Clone, Copy)]
-pub enum Writing {
-    Done(usize),
+pub enum Unwritten {
     Size,
     Out,
 }
 
-// What the reader answers: how many words and literals it filled, or the refusal; LINE with the line's number.
+// What the reader refuses; LINE with the line's number.
 #[derive(Clone, Copy)]
-pub enum Reading {
-    Done(usize, usize),
+pub enum Unread {
     Line(u32),
     Room,
 }
 
-// Writes the listing of a table from the slice's start on.
-pub fn write(words: &[u16], literals: &[u8], text: &mut [u8]) -> Writing
+// "success tells the lengths": how many words and literals the reader filled.
+#[derive(Clone, Copy)]
+pub struct Lengths {
+    pub words: usize,
+    pub literals: usize,
+}
+
+// Writes the listing of a table from the slice's start on; how many bytes.
+pub fn write(words: &[u16], literals: &[u8], text: &mut [u8]) -> Result<usize, Unwritten>
     ensures { written result text.new ≡ write words.now literals.now text.old }
 {
     if !table::sizes::size_ok(words, literals.len()) {
-        return Writing::Size;
+        return Err(Unwritten::Size);
     }
     let measuring = 0;
     let length = writer::put_listing(&mut text[..measuring], 0, words, literals);
     if text.len() < length {
-        return Writing::Out;
+        return Err(Unwritten::Out);
     }
     writer::put_listing(text, 0, words, literals);
-    Writing::Done(length)
+    Ok(length)
 }
 
 // Reads a listing that stands in a text from a place on, to the text's end; `first` is the number of its first line. Fills just the words and the
@@ -51,44 +57,29 @@ pub fn read_from(
     first: u16,
     words: &mut [u16],
     literals: &mut [u8],
-) -> Reading
+) -> Result<Lengths, Unread>
     ensures { filled result words.new literals.new ≡ read_from text.now at first words.old literals.old }
 {
     let judging = 0;
-    let number = first as u32;
-    match reader::read_head(text, at, number, &mut literals[..judging]) {
-        Head::Wrong(n) => Reading::Line(n),
-        Head::Is(rules, nodes, bytes, next) => {
-            // "ROOM is judged after line 3"
-            let size = 3 + 15 * rules as usize + 10 * nodes as usize;
-            if words.len() < size {
-                return Reading::Room;
-            }
-            if literals.len() < bytes {
-                return Reading::Room;
-            }
-            match reader::read_body(
-                text,
-                next,
-                rules,
-                nodes,
-                number + 3,
-                &mut words[..judging],
-                3,
-            ) {
-                Lines::Wrong(n) => Reading::Line(n),
-                Lines::At(_) => {
-                    reader::read_head(text, at, number, literals);
-                    reader::fill_words(text, next, rules, nodes, bytes, number + 3, words);
-                    Reading::Done(size, bytes)
-                }
-            }
-        }
+    let number = u32::from(first);
+    let head = reader::read_head(text, at, number, &mut literals[..judging]).map_err(Unread::Line)?;
+    // "ROOM is judged after line 3"
+    let size = 3 + RULES.width * head.rules as usize + NODES.width * head.nodes as usize;
+    if words.len() < size || literals.len() < head.literals {
+        return Err(Unread::Room);
     }
+    reader::read_body(text, head, number + 3, &mut words[..judging], 3).map_err(Unread::Line)?;
+    // The second time around both find what they found before.
+    let _ = reader::read_head(text, at, number, literals);
+    let _ = reader::fill_words(text, head, number + 3, words);
+    Ok(Lengths {
+        words: size,
+        literals: head.literals,
+    })
 }
 
 // Reads a text that is a listing.
-pub fn read(text: &[u8], words: &mut [u16], literals: &mut [u8]) -> Reading
+pub fn read(text: &[u8], words: &mut [u16], literals: &mut [u8]) -> Result<Lengths, Unread>
     ensures { filled result words.new literals.new ≡ read text.now words.old literals.old }
 {
     read_from(text, 0, 1, words, literals)

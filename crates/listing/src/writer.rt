@@ -1,10 +1,10 @@
-// Lines, put into a slice from a place on.
-ghost use Rattle.std.specs.Prelude.{◌≡◌, true, ◌+◌, ◌≤◌, ◌*◌, length};
+// Lines, put into a slice from a place on. The place stays a number beside the slice: measuring lends an empty one, and text's `Wrote` speaks of places.
+ghost use Rattle.std.specs.Prelude.{◌≡◌, true, ◌+◌, ◌≤◌, ◌*◌, ◌/◌, ◌<◌, length};
 ghost use Rattle.grammar.specs.Form.{size_ok};
 ghost use Rattle.text.specs.Stored.{Wrote};
-ghost use Rattle.listing.specs.Listing.{ending, numbers, line, record_lines, literals_line, head_lines, body_lines, listing};
+ghost use Rattle.listing.specs.Listing.{ending, numbers, line, record_lines, literals_line, head_lines, listing};
 
-use table::sizes::wide;
+use crate::records::{NODES, RULES, Records};
 
 // What ends a number that so many others follow in its line: "single spaces, each line ended by byte 10".
 pub(crate) fn ending_of(others: usize) -> u8
@@ -20,11 +20,9 @@ fn put_numbers(text: &mut [u8], at: usize, words: &[u16]) -> usize
     ensures { Wrote text.old at (numbers words.now) result text.new }
 {
     let mut next = at;
-    let mut i = 0;
-    while i < words.len() {
-        let end = text::put_decimal(text, next, words[i] as u32);
-        i += 1;
-        next = text::put(text, end, ending_of(words.len() - i));
+    for (i, &word) in words.iter().enumerate() {
+        let end = text::put_decimal(text, next, u32::from(word));
+        next = text::put(text, end, ending_of(words.len() - 1 - i));
     }
     next
 }
@@ -36,25 +34,13 @@ fn put_line(text: &mut [u8], at: usize, key: &[u8], words: &[u16]) -> usize
     put_numbers(text, next, words)
 }
 
-fn put_records(
-    text: &mut [u8],
-    at: usize,
-    key: &[u8],
-    width: usize,
-    count: usize,
-    words: &[u16],
-) -> usize
-    requires { count * width ≤ length words.now }
-    ensures { Wrote text.old at (record_lines key.now width count words.now) result text.new }
+fn put_records(text: &mut [u8], at: usize, records: Records, words: &[u16]) -> usize
+    requires { 0 < records.width }
+    ensures { Wrote text.old at (record_lines records.key.now records.width (length words.now / records.width) words.now) result text.new }
 {
     let mut next = at;
-    let mut from = 0;
-    let mut left = count;
-    while 0 < left {
-        let to = from + width;
-        next = put_line(text, next, key, &words[from..to]);
-        from = to;
-        left -= 1;
+    for record in words.chunks_exact(records.width) {
+        next = put_line(text, next, records.key, record);
     }
     next
 }
@@ -76,22 +62,13 @@ fn put_head(text: &mut [u8], at: usize, words: &[u16], literals: &[u8]) -> usize
     put_literals(text, b, literals)
 }
 
-fn put_body(text: &mut [u8], at: usize, words: &[u16], rules: usize, nodes: usize) -> usize
-    requires { (rules ≤ 64) × ((nodes ≤ 1024) × (length words.now ≡ 3 + 15 * rules + 10 * nodes)) }
-    ensures { Wrote text.old at (body_lines rules nodes words.now) result text.new }
-{
-    let start = 3 + 15 * rules;
-    let next = put_records(text, at, b"rule=", 15, rules, &words[3..]);
-    put_records(text, next, b"node=", 10, nodes, &words[start..])
-}
-
 // The listing of a table of right size.
 pub(crate) fn put_listing(text: &mut [u8], at: usize, words: &[u16], literals: &[u8]) -> usize
     requires { size_ok words.now (length literals.now) ≡ true }
     ensures { Wrote text.old at (listing words.now literals.now) result text.new }
 {
-    let rules = wide(words[0]);
-    let nodes = wide(words[1]);
-    let next = put_head(text, at, words, literals);
-    put_body(text, next, words, rules, nodes)
+    let nodes = 3 + RULES.width * usize::from(words[0]);
+    let rule_lines = put_head(text, at, words, literals);
+    let node_lines = put_records(text, rule_lines, RULES, &words[3..nodes]);
+    put_records(text, node_lines, NODES, &words[nodes..])
 }

@@ -15,8 +15,7 @@ use Rattle.grammar.specs.Tree.{four}
 use Rattle.grammar.specs.Run.{Slots, fresh, receive}
 use Rattle.values.specs.Slots.{InRange}
 use Rattle.frames.specs.Frames.{slots_in, unset}
-use Rattle.calls.specs.declared.Four.{Four}
-use Rattle.calls.specs.Calls.{four_of, inherited, received_at, received}
+use Rattle.calls.specs.Calls.{value_at, four_of, inherited, received_at, received}
 use Rattle.machine.proofs.Decoded.{written_same, unset_same, written_slots, unset_slots}
 use Rattle.machine.proofs.Ranges.{AllInRange, in_range_at}
 
@@ -31,16 +30,17 @@ module _ {low high : ℕ} (slots_below : 32 ≤ low) where
   one : (w : List ℕ) (i m s : ℕ) (v : Value) → Same low high w (received_at i m s v w)
   one w i m s v = received_one (ltb i m) w i m s v refl
 
-  pub received_same : (m s t u v : ℕ) (f : Four) (w : List ℕ) → Same low high w (received m s t u v f w)
+  pub received_same : (m s t u v : ℕ) (vs : List Value) (w : List ℕ) → Same low high w (received m (s ∷ t ∷ u ∷ v ∷ []) vs w)
   unfolding received
-  received_same m s t u v f w = same_trans (same_trans (same_trans (one w 0 m s f.a) (one _ 1 m t f.b)) (one _ 2 m u f.c)) (one _ 3 m v f.d)
+  received_same m s t u v vs w =
+      same_trans (same_trans (same_trans (one w 0 m s (value_at vs 0)) (one _ 1 m t (value_at vs 1))) (one _ 2 m u (value_at vs 2))) (one _ 3 m v (value_at vs 3))
 
-  pub inherited_same : (f : Four) (w : List ℕ) → Same low high w (inherited f w)
+  pub inherited_same : (vs : List Value) (w : List ℕ) → Same low high w (inherited vs w)
   unfolding inherited
-  inherited_same f w =
+  inherited_same vs w =
       same_trans (unset_same w slots_below)
-      (same_trans (written_same (unset w) 0 f.a slots_below)
-      (same_trans (written_same _ 1 f.b slots_below) (same_trans (written_same _ 2 f.c slots_below) (written_same _ 3 f.d slots_below))))
+      (same_trans (written_same (unset w) 0 (value_at vs 0) slots_below)
+      (same_trans (written_same _ 1 (value_at vs 1) slots_below) (same_trans (written_same _ 2 (value_at vs 2) slots_below) (written_same _ 3 (value_at vs 3) slots_below))))
 
 -- ════ What stands there then ════
 
@@ -59,7 +59,7 @@ one_slots true w i m s e h r = rw e (written_slots w h s r)
 one_slots false w i m s e h r = rw e
 
 four_slots : (m s t u v : ℕ) (vs : List Value) (w : List ℕ) → 32 ≤ length w → AllInRange vs →
-    slots_in (received m s t u v (four_of vs) w) ≡ taking_four m s t u v vs (slots_in w)
+    slots_in (received m (s ∷ t ∷ u ∷ v ∷ []) (four_of vs) w) ≡ taking_four m s t u v vs (slots_in w)
 unfolding received
 four_slots m s t u v vs w h r =
     let w₁ = received_at 0 m s (get_or vs 0 Val.Absent) w in
@@ -97,7 +97,7 @@ receive_is (suc (suc (suc (suc m)))) s t u v (a ∷ b ∷ c ∷ d ∷ vs) slots 
     rw (lt-ltb 0 n (omega arith), lt-ltb 1 n (omega arith), lt-ltb 2 n (omega arith), lt-ltb 3 n (omega arith), take-nil {A = ℕ} m)
 
 pub received_slots : (m s t u v : ℕ) (vs : List Value) (w : List ℕ) → 32 ≤ length w → AllInRange vs → length (four m s t u v) ≤ length vs →
-    slots_in (received m s t u v (four_of vs) w) ≡ receive (slots_in w) (four m s t u v) vs
+    slots_in (received m (s ∷ t ∷ u ∷ v ∷ []) (four_of vs) w) ≡ receive (slots_in w) (four m s t u v) vs
 received_slots m s t u v vs w h r enough = four_slots m s t u v vs w h r ∙ receive_is m s t u v vs (slots_in w) enough
 
 fresh_is : (vs : List Value) → length vs ≤ 4 → taking_four 4 0 1 2 3 vs (replicate 16 Val.Absent) ≡ fresh vs

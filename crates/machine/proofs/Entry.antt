@@ -10,14 +10,13 @@ use lib.Dec.{leb, ltb}
 use lib.ListN.{length, get_or-eq_default}
 use Rattle.grammar.specs.declared.Value.{Value}
 use Rattle.grammar.specs.declared.Node.TheVariants as N
-use Rattle.grammar.specs.declared.Verdict.{Verdict}
-use Rattle.grammar.specs.declared.Verdict.TheVariants.{Passed, Long, Work}
+use Rattle.grammar.specs.declared.Refusal.TheVariants.{Long, Work}
 use Rattle.grammar.specs.declared.Mode.{Mode}
 use Rattle.grammar.specs.declared.Mode.TheVariants.{Bench, Display}
 use Rattle.grammar.specs.Words.{node_count, node_start, nodes, node_for, node_at, rule_word}
 use Rattle.grammar.specs.Tree.{Rule, parsing_of, parsing_with, parsing_at, rule_of, rule_at, grammar_of}
 use Rattle.grammar.specs.Values.{Evaluated, value, ends}
-use Rattle.grammar.specs.Form.{followed_by, unless_ok, table_check}
+use Rattle.grammar.specs.Form.{Verdict, passed, followed_by, unless_ok, table_check}
 use Rattle.grammar.specs.Run.{Setting, Applied, matched, next, onward, with_value, eval_all, fresh, apply}
 use Rattle.grammar.specs.Answer.{work_words, deepest_visit, setting_of, run, answer_of, ending_number, zeroed}
 use Rattle.grammar.specs.Answer.{type_rules, type_check, check_for, check, conclude, answer, left_after, work_after}
@@ -154,30 +153,30 @@ module _ (words literals message : List ℕ) where
 module _ (words literals message : List ℕ) (short : Short words) where
   -- A table that passes the table check, a message that is not LONG, a work area that has W words: the run in words gives the written meaning's answer,
   -- visits included, and leaves the first W words zero and the others untouched
-  pub ran_is : table_check words literals ≡ Passed → length message ≤ 65535 → (budget : ℕ) (work : List ℕ) → work_words ≤ length work →
+  pub ran_is : table_check words literals ≡ passed → length message ≤ 65535 → (budget : ℕ) (work : List ℕ) → work_words ≤ length work →
       ran words literals message budget work ≡ recorded (answer_of (run (setting_of words literals message) budget)) (zeroed work)
   unfolding ran
-  ran_is passed small budget work room =
-      let table : SoundTable words literals = sound_of_form words literals passed in
+  ran_is checked small budget work room =
+      let table : SoundTable words literals = sound_of_form words literals checked in
       let start : rule_of (grammar_of words) 0 ≡ rule_at words 0 = rule_tree words 0 (sizes words literals table).some_rule in
       ap₂ recorded
       (answers words literals message (decodes words literals table) start short small budget work room)
       (leaves words literals message (decodes words literals table) start short small budget work room)
 
-  table_form : (mode : Mode) → check_for mode words literals ≡ Passed → table_check words literals ≡ Passed
+  table_form : (mode : Mode) → check_for mode words literals ≡ passed → table_check words literals ≡ passed
   unfolding type_check
   table_form Bench e = e
   table_form Display e = (followed_by_passed (table_check words literals) (type_rules words) e).0
 
   -- the same for an entry point: where all checks pass, the run in words gives its whole answer
-  pub ran_answers : (mode : Mode) (budget : ℕ) (work : List ℕ) → check mode words literals (length message) (length work) ≡ Passed →
+  pub ran_answers : (mode : Mode) (budget : ℕ) (work : List ℕ) → check mode words literals (length message) (length work) ≡ passed →
       ran words literals message budget work ≡ recorded (answer mode words literals message budget (length work)) (work_after mode words literals message work)
   unfolding check answer work_after conclude left_after
-  ran_answers mode budget work passed =
+  ran_answers mode budget work all =
       let not_long : Verdict = unless_ok (leb (length message) 65535) Long in
       let enough_work : Verdict = unless_ok (leb work_words (length work)) Work in
-      let a = followed_by_passed (check_for mode words literals) (followed_by not_long enough_work) passed in
+      let a = followed_by_passed (check_for mode words literals) (followed_by not_long enough_work) all in
       let b = followed_by_passed not_long enough_work a.1 in
-      let small : length message ≤ 65535 = leb-true (length message) 65535 (unless_ok_passed (leb (length message) 65535) Long tt b.0) in
-      let room : work_words ≤ length work = leb-true work_words (length work) (unless_ok_passed (leb work_words (length work)) Work tt b.1) in
-      rw passed (ran_is (table_form mode a.0) small budget work room)
+      let small : length message ≤ 65535 = leb-true (length message) 65535 (unless_ok_passed (leb (length message) 65535) Long b.0) in
+      let room : work_words ≤ length work = leb-true work_words (length work) (unless_ok_passed (leb work_words (length work)) Work b.1) in
+      rw all (ran_is (table_form mode a.0) small budget work room)

@@ -22,7 +22,7 @@ use Rattle.visits.proofs.Arms.{admitted_fine}
 use Rattle.visits.proofs.ByKind.{begun_part, begun_terminal}
 use Rattle.returns.specs.Returns.{matched_in, failed_in, given_back}
 use Rattle.returns.proofs.Arms.{sequence_first, choice_first, matched_top, failed_top}
-use Rattle.returns.proofs.ByKind.{matched_sequence, matched_none, failed_choice, failed_none}
+use Rattle.returns.proofs.ByKind.{matched_sequence, matched_choice, failed_sequence, failed_choice}
 use Rattle.machine.specs.Step.{step_in, step_of}
 use Rattle.machine.specs.Drive.{goes_on_in, goes_on}
 use Rattle.machine.specs.Strides.{Strode, terminal_first, two_left, twice_visited, came_back, both_visited}
@@ -207,17 +207,17 @@ module _ (words literals message : List ℕ) (B k : ℕ) (r : Run) (w : List ℕ
   step₃ true false e =
       let visits : r.visits + 1 + 1 ≡ r.visits + 2 = omega arith in
       let kind : kind_at words k ≡ 3 = eqb-true _ _ e in
-      failed_back ∙ (failed_none words k r.frames (came false) p (λ z. omega arith) (λ z. omega arith) (λ z. omega arith) ∙ rw (visits, frame.3))
+      failed_back ∙ (failed_sequence words literals message k r.frames (came false) p kind ∙ rw (visits, frame.3))
   step₃ false true e =
       let visits : r.visits + 1 + 1 ≡ r.visits + 2 = omega arith in
       let other : kind_at words k ≡ 3 → ⊥ = eqb-false _ _ e in
       let kind : kind_at words k ≡ 4 = omega (arith, kinds, other) in
-      matched_back ∙ (matched_none words literals message k r.frames (came true) p (λ z. omega arith) (λ z. omega arith) (λ z. omega arith) (λ z. omega arith) (λ z. omega arith) ∙ rw visits)
+      matched_back ∙ (matched_choice words literals message k r.frames (came true) p kind ∙ rw visits)
   step₃ false false e =
       let visits : r.visits + 1 + 1 ≡ r.visits + 2 = omega arith in
       let other : kind_at words k ≡ 3 → ⊥ = eqb-false _ _ e in
       let kind : kind_at words k ≡ 4 = omega (arith, kinds, other) in
-      failed_back ∙ (failed_choice words k r.frames (came false) p kind
+      failed_back ∙ (failed_choice words literals message k r.frames (came false) p kind
       ∙ (choice_first (node_word words k 2) r.frames (came false) p (phase_in p r.frames) frame.1 ∙ rw (visits, frame.2, frame.3)))
 
   goes_back : (b : Bool) → goes_on B (came b) ≡ true

@@ -2,7 +2,7 @@
 -- as the weight are enough. Assumes nothing.
 use mathlib.Core.Path.{◌≡◌, refl, sym, ap, ◌∙◌}
 use mathlib.Core.Bool.{Bool, true, false, ◌&&◌}
-use mathlib.Core.List.{List}
+use mathlib.Core.List.{List, [], ◌∷◌}
 use Prim.Native.Nat.{ℕ, zero, suc, ◌+◌, ◌-◌, ◌*◌, ◌≤◌, ◌<◌}
 use native.Mathlib.Omega.{arith}
 use borrow.Author.Tests.{ltb-true, ltb-false}
@@ -21,8 +21,9 @@ use Rattle.frames.specs.Frames.{node_in, phase_in}
 use Rattle.stages.specs.declared.Stage.{Stage}
 use Rattle.stages.specs.declared.Stage.TheVariants as S
 use Rattle.stages.specs.declared.Run.{Run}
-use Rattle.calls.specs.declared.Given.{Given}
-use Rattle.calls.specs.declared.Given.TheVariants.{Are, Ends}
+use Rattle.std.specs.Prelude.{Result, Ok, Err}
+use Rattle.grammar.specs.declared.Ended.{Ended}
+use Rattle.grammar.specs.declared.Value.{Value}
 use Rattle.calls.specs.Calls.{evaluated, returned_by}
 use Rattle.stages.specs.Stages.{Stepped, with, moved, staged, ended_at}
 use Rattle.visits.specs.Visits.{visited, consumed, updated, judged, constrained, opened, called, begun, admitted}
@@ -84,10 +85,10 @@ module _ (B : ℕ) where
   unfolding opened weight rank
   opened_light k part r w = omega arith
 
-  called_light : (g : Given) (body k : ℕ) (r : Run) (w : List ℕ) → weight B (called g body k r w).run ≤ left r + 3
+  called_light : (g : Result (List Value) Ended) (body k : ℕ) (r : Run) (w : List ℕ) → weight B (called g body k r w).run ≤ left r + 3
   unfolding called weight rank
-  called_light (Are f) body k r w = omega arith
-  called_light (Ends why j) body k r w = omega (arith, rank_ended why j)
+  called_light (Ok vs) body k r w = omega arith
+  called_light (Err end) body k r w = omega (arith, rank_ended end.why end.node)
 
   -- returns to frame d, the top one
   module _ (d : ℕ) (r : Run) (top : r.frames ≡ suc d) where
@@ -109,10 +110,10 @@ module _ (B : ℕ) where
     choice_light zero b w = again_light b _
     choice_light (suc phase) b w = popped_light S.Failed r.at
 
-    returned_light : (g : Given) (m s t u v : ℕ) (w : List ℕ) → weight B (returned g m s t u v d r w).run < left r + 2
+    returned_light : (g : Result (List Value) Ended) (m : ℕ) (slots : List ℕ) (w : List ℕ) → weight B (returned g m slots d r w).run < left r + 2
     unfolding returned
-    returned_light (Are f) m s t u v w = popped_light S.Matched r.at
-    returned_light (Ends why j) m s t u v w = omega (arith, ended_light r why j)
+    returned_light (Ok vs) m slots w = popped_light S.Matched r.at
+    returned_light (Err end) m slots w = omega (arith, ended_light r end.why end.node)
 
     failed_light : (n : Node) (w : List ℕ) → weight B (failed_in n d r w).run < left r + 2
     unfolding failed_in given_back
@@ -164,7 +165,7 @@ module _ (words literals message : List ℕ) (B : ℕ) where
   matched_light d r w top (N.Choice a b) = popped_light B d r top S.Matched r.at
   matched_light d r w top (N.Repeat a) = again_light B d r top a r.at
   matched_light d r w top (N.Not a) = popped_light B d r top S.Failed r.at
-  matched_light d r w top (N.Call q a b c e s t u v) = returned_light B d r top (returned_by words literals message q w) (returned_count words q) s t u v w
+  matched_light d r w top (N.Call q a b c e s t u v) = returned_light B d r top (returned_by words literals message q w) (returned_count words q) (s ∷ t ∷ u ∷ v ∷ []) w
   matched_light d r w top (N.Bind s a) = popped_light B d r top S.Matched r.at
   matched_light d r w top (N.Update s a) = popped_light B d r top S.Matched r.at
   matched_light d r w top (N.Constraint a) = popped_light B d r top S.Matched r.at

@@ -2,7 +2,7 @@
 -- numbers, the message is at most 65,535 bytes and the work area has W words.
 use mathlib.Core.Path.{◌≡◌, refl, ap}
 use mathlib.Core.Bool.{cond, true}
-use mathlib.Core.List.{List, ◌∷◌}
+use mathlib.Core.List.{List, ◌∷◌, []}
 use Prim.Native.Nat.{ℕ, zero, suc, ◌≤◌, ◌<◌}
 use native.Mathlib.Omega.{arith}
 use lib.ListN.{length}
@@ -89,7 +89,7 @@ module _ (area : List ℕ) (room : work_words ≤ length area) (r : Run) (w : Li
 
     -- its slots take what the rule returned
     returned_goes : {count : ℕ} {e : Evaluated (List Value)} (m s₀ s₁ s₂ s₃ : ℕ) → length (four m s₀ s₁ s₂ s₃) ≤ count → Yields (ManyInRange count) e →
-        Goes area (returned (given_by e) m s₀ s₁ s₂ s₃ d r w)
+        Goes area (returned (given_by e) m (s₀ ∷ s₁ ∷ s₂ ∷ s₃ ∷ []) d r w)
         (resume (with_value e t (λ vs. matched r.at (receive (kept_in w d) (four m s₀ s₁ s₂ s₃) vs) t)) (frames_in d w))
     unfolding returned given_by with_value resume state_at state_in ended_at
     returned_goes m s₀ s₁ s₂ s₃ enough (yields {a = vs} h) =

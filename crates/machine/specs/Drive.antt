@@ -1,5 +1,5 @@
 -- A whole run, in words: from the start rule's body until it rests, then its answer record and the work area afterwards. Assumes nothing.
-use Rattle.std.specs.Prelude.{List, [], Bool, false, ℕ, ◌+◌, ◌-◌, ◌*◌, ltb}
+use Rattle.std.specs.Prelude.{List, [], Result, Ok, Err, Bool, false, ℕ, ◌+◌, ◌-◌, ◌*◌, ltb}
 use Rattle.grammar.specs.declared.Fault.TheVariants.{Overflow, ZeroDivisor}
 use Rattle.grammar.specs.declared.Ending.{Ending}
 use Rattle.grammar.specs.declared.Ending.TheVariants.{Budget, Deep, Stuck, «Fault» as AtFault}
@@ -11,8 +11,8 @@ use Rattle.frames.specs.Frames.{cleared, unset}
 use Rattle.stages.specs.declared.Stage.{Stage}
 use Rattle.stages.specs.declared.Stage.TheVariants as S
 use Rattle.stages.specs.declared.Run.{Run}
-use Rattle.calls.specs.declared.Given.{Given}
-use Rattle.calls.specs.declared.Given.TheVariants.{Are, Ends}
+use Rattle.grammar.specs.declared.Ended.{Ended}
+use Rattle.grammar.specs.declared.Value.{Value}
 use Rattle.calls.specs.Calls.{returned_by}
 use Rattle.stages.specs.Stages.{Stepped, with}
 use Rattle.machine.specs.Step.{steps_of}
@@ -48,18 +48,15 @@ abbrev pub ended_answer : Ending → ℕ → Run → Answer
 ended_answer why k r = answered (ending_number why) k 0 r.visits []
 
 -- the start rule's 'returned values are the record's'
-unfoldable pub done_answer : Given → Run → Answer
-done_answer (Are f) r = record {
+unfoldable pub done_answer : Result (List Value) Ended → Run → Answer
+done_answer (Ok values) r = record {
   number = DONE;
   place = 0;
   consumed = r.at;
   visits = r.visits;
-  value0 = f.a;
-  value1 = f.b;
-  value2 = f.c;
-  value3 = f.d;
+  values = values;
 }
-done_answer (Ends why j) r = ended_answer why j r
+done_answer (Err end) r = ended_answer end.why end.node r
 
 -- the answer record, and the work area
 pub record Ran : Type 0 where

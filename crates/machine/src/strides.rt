@@ -3,6 +3,7 @@ ghost use Rattle.std.specs.Prelude.{◌≡◌, ◌<◌};
 ghost use Rattle.stages.specs.Stages.{with};
 ghost use Rattle.machine.specs.Strides.{terminal_first, two_left, both_visited};
 
+use grammar::Inputs;
 use stages::{Run, Stage};
 use table::records::{field_in, kind_in, node_place};
 use visits::byte_stands;
@@ -12,15 +13,11 @@ pub(crate) fn terminal_first(words: &[u16], k: u16) -> bool
     ensures { result ≡ terminal_first words.now k }
 {
     let place = node_place(words, k);
-    // 3 sequence, 4 choice, 2 terminal
-    let kind = kind_in(words, place);
-    if kind < 3 {
-        return false;
+    // 3 sequence, 4 choice, 2 terminal: by number (i), as `terminal_first` of specs/Strides has them
+    match kind_in(words, place) {
+        3 | 4 => kind_in(words, node_place(words, field_in(words, place, 1))) == 2,
+        _ => false,
     }
-    if 4 < kind {
-        return false;
-    }
-    kind_in(words, node_place(words, field_in(words, place, 1))) == 2
 }
 
 // Are two more visits left, one inside the other, in a work area that has all its frames?
@@ -42,12 +39,12 @@ pub(crate) fn two_left(budget: u32, room: usize, run: Run) -> bool
 // The visit of node k, such a sequence or choice, that of its first part, and the return from there. A sequence goes on to its second part where
 // the first has matched, a choice where it has failed; else they do as their part did. (Every kind but 3 is taken for a choice:
 // `terminal_first` comes first.)
-pub(crate) fn both_visits(words: &[u16], message: &[u8], k: u16, run: Run, work: &mut [u32]) -> Run
+pub(crate) fn both_visits(inputs: Inputs, k: u16, run: Run, work: &mut [u32]) -> Run
     requires { (run.frames < 255) × (run.visits < 4294967294) }
-    ensures { with result work.new ≡ both_visited words.now message.now k run work.old }
+    ensures { with result work.new ≡ both_visited inputs.entry.words.now inputs.entry.message.now k run work.old }
 {
-    let d = run.frames;
-    let at = run.at;
+    let Inputs { words, message, .. } = inputs;
+    let Run { at, frames: d, .. } = run;
     let place = node_place(words, k);
     let sequence = kind_in(words, place) == 3;
     let part = node_place(words, field_in(words, place, 1));

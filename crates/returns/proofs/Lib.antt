@@ -1,3 +1,2 @@
 pub mod Arms
-pub mod Others
 pub mod ByKind

@@ -1,22 +1,22 @@
 -- A return to the node of the top frame, in words: what it does to the run record and to the work area (document 01, 'Running'). Frame d is the
 -- top one, d frames below it. Assumes nothing.
-use Rattle.std.specs.Prelude.{List, ℕ, zero, suc, ◌+◌}
+use Rattle.std.specs.Prelude.{List, [], ◌∷◌, Result, Ok, Err, ℕ, zero, suc, ◌+◌}
 use Rattle.grammar.specs.declared.Node.{Node}
 use Rattle.grammar.specs.declared.Node.TheVariants as N
 use Rattle.grammar.specs.Words.{word, returned_count, node_at}
 use Rattle.grammar.specs.Run.{message_part}
 use Rattle.frames.specs.Frames.{written, node_in, phase_in, from_in, saved, in_second, restored}
-use Rattle.calls.specs.declared.Given.{Given}
-use Rattle.calls.specs.declared.Given.TheVariants.{Are, Ends}
+use Rattle.grammar.specs.declared.Ended.{Ended}
+use Rattle.grammar.specs.declared.Value.{Value}
 use Rattle.calls.specs.Calls.{received, returned_by}
 use Rattle.stages.specs.declared.Stage.TheVariants as S
 use Rattle.stages.specs.declared.Run.{Run}
 use Rattle.stages.specs.Stages.{Stepped, with, moved, staged, ended_at}
 
 -- a called body has matched: the caller's slots are back, and its receiving slots take what the rule returned
-unfoldable pub returned : Given → (m s t u v d : ℕ) → Run → List ℕ → Stepped
-returned (Are f) m s t u v d r w = with (moved r S.Matched r.at d) (received m s t u v f (restored w d))
-returned (Ends why j) m s t u v d r w = with (staged r (ended_at why j)) w
+unfoldable pub returned : Result (List Value) Ended → (m : ℕ) → (slots : List ℕ) → (d : ℕ) → Run → List ℕ → Stepped
+returned (Ok values) m slots d r w = with (moved r S.Matched r.at d) (received m slots values (restored w d))
+returned (Err end) m slots d r w = with (staged r (ended_at end.why end.node)) w
 
 -- a sequence's part matched: on to the second part, or done. The first number is the phase
 unfoldable pub sequence_matched : ℕ → (b d : ℕ) → Run → List ℕ → Stepped
@@ -59,7 +59,7 @@ module _ (words literals message : List ℕ) where
   abbrev pub returned_at : (place d : ℕ) → Run → List ℕ → Stepped
   returned_at place d r w =
       let field : ℕ → ℕ = λ j. word words (place + j) in
-      returned (returned_by words literals message (field 1) w) (returned_count words (field 1)) (field 6) (field 7) (field 8) (field 9) d r w
+      returned (returned_by words literals message (field 1) w) (returned_count words (field 1)) (field 6 ∷ field 7 ∷ field 8 ∷ field 9 ∷ []) d r w
 
   -- the part of the node of frame d matched. A node without parts has no frame; if one stood there, it would match
   unfoldable pub matched_in : Node → ℕ → Run → List ℕ → Stepped
@@ -73,7 +73,7 @@ module _ (words literals message : List ℕ) where
   matched_in (N.Repeat a) d r w = with (staged r (S.Enter a)) (saved w d r.at)
   -- 'not hands on the slots its part left, matched or failed'
   matched_in (N.Not a) d r w = with (moved r S.Failed r.at d) w
-  matched_in (N.Call q a b c e s t u v) d r w = returned (returned_by words literals message q w) (returned_count words q) s t u v d r w
+  matched_in (N.Call q a b c e s t u v) d r w = returned (returned_by words literals message q w) (returned_count words q) (s ∷ t ∷ u ∷ v ∷ []) d r w
   -- 'Bind consumes what its part consumes'
   matched_in (N.Bind s a) d r w = with (moved r S.Matched r.at d) (written w s (message_part (from_in w d) r.at))
   matched_in (N.Update s a) d r w = with (moved r S.Matched r.at d) w

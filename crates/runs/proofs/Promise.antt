@@ -4,7 +4,7 @@ use mathlib.Core.Path.{◌≡◌, sym, ap, ◌∙◌}
 use mathlib.Core.List.{List}
 use Prim.Native.Nat.{ℕ}
 use lib.ListN.{length}
-use Rattle.grammar.specs.declared.Verdict.TheVariants.{Passed}
+use Rattle.grammar.specs.Form.{passed}
 use Rattle.grammar.specs.declared.Answer.{Answer}
 use Rattle.grammar.specs.declared.Mode.{Mode}
 use Rattle.grammar.specs.declared.Mode.TheVariants.{Bench, Display}
@@ -31,7 +31,7 @@ module _ (words literals message : List ℕ) (budget : ℕ) (lent : List ℕ) wh
   texts_fit {mode} p = rw p.gives (texts_there words literals message mode budget (length lent))
 
   -- 'Where both run, they agree'
-  pub both_agree : {a b : Answer} {w x : List ℕ} → type_check words literals ≡ Passed → Allowed Bench a w → Allowed Display b x → (a ≡ b) × (w ≡ x)
+  pub both_agree : {a b : Answer} {w x : List ℕ} → type_check words literals ≡ passed → Allowed Bench a w → Allowed Display b x → (a ≡ b) × (w ≡ x)
   unfolding work_after
   both_agree e p q = (
     p.gives ∙ same_answer words literals e message budget (length lent) ∙ sym q.gives,

@@ -1,11 +1,10 @@
 // The answer record.
 ghost use Rattle.std.specs.Prelude.{◌≡◌, []};
-ghost use Rattle.grammar.specs.Answer.{answered, ending_number, number, place, refusal};
+ghost use Rattle.grammar.specs.Answer.{answered, ending_number, refusal, refusal_number, refusal_place};
 ghost use Rattle.stages.specs.Stages.{with};
 ghost use Rattle.machine.specs.Drive.{ended_answer, done_answer, concluded};
 
-use calls::Given;
-use grammar::{Answer, Ending, Value, Verdict};
+use grammar::{Answer, Ended, Ending, Inputs, Refusal, Value};
 use stages::{Run, Stage};
 
 // "Consumed and values are zero or absent unless DONE."
@@ -17,10 +16,7 @@ pub(crate) fn without_values(number: u32, place: u32, visits: u32) -> Answer
         place: place,
         consumed: 0,
         visits: visits,
-        value0: Value::Absent,
-        value1: Value::Absent,
-        value2: Value::Absent,
-        value3: Value::Absent,
+        values: [Value::Absent; 4],
     }
 }
 
@@ -43,44 +39,28 @@ fn ended(why: Ending, k: u16, run: Run) -> Answer
 }
 
 // The start rule's "returned values are the record's".
-fn done(given: Given, run: Run) -> Answer
-    ensures { result ≡ done_answer given run }
+fn done(returned: Result<[Value; 4], Ended>, run: Run) -> Answer
+    ensures { result ≡ done_answer returned run }
 {
-    match given {
-        Given::Are(four) => {
-            let a = four.a;
-            let b = four.b;
-            let c = four.c;
-            let d = four.d;
-            Answer {
-                number: 0,
-                place: 0,
-                consumed: run.at as u32,
-                visits: run.visits,
-                value0: a,
-                value1: b,
-                value2: c,
-                value3: d,
-            }
-        }
-        Given::Ends(why, k) => ended(why, k, run),
+    match returned {
+        Ok(values) => Answer {
+            number: 0,
+            place: 0,
+            consumed: run.at as u32,
+            visits: run.visits,
+            values,
+        },
+        Err(end) => ended(end.why, end.node, run),
     }
 }
 
 // The answer of a run at rest. Where a visit is due, the budget is spent.
-pub(crate) fn conclude<'a>(
-    words: &[u16],
-    literals: &'a [u8],
-    message: &'a [u8],
-    run: Run,
-    work: &[u32],
-) -> Answer
-    ensures { result ≡ concluded words.now literals.now message.now (with run work.now) }
+pub(crate) fn conclude<'a>(inputs: Inputs<'a>, run: Run, work: &[u32]) -> Answer
+    ensures { result ≡ concluded inputs.entry.words.now inputs.entry.literals.now inputs.entry.message.now (with run work.now) }
 {
-    let stage = run.stage;
-    match stage {
+    match run.stage {
         Stage::Enter(k) => ended(Ending::Budget, k, run),
-        Stage::Matched => done(calls::returned_by(words, literals, message, work, 0), run),
+        Stage::Matched => done(calls::returned_by(inputs, work, 0), run),
         Stage::Failed => without_values(8, 0, run.visits),
         Stage::Deep(k) => ended(Ending::Deep, k, run),
         Stage::Stuck(k) => ended(Ending::Stuck, k, run),
@@ -89,35 +69,34 @@ pub(crate) fn conclude<'a>(
     }
 }
 
-fn number_of(verdict: Verdict) -> u32
-    ensures { result ≡ number verdict }
+fn number_of(why: Refusal) -> u32
+    ensures { result ≡ refusal_number why }
 {
-    match verdict {
-        Verdict::Passed => 0,
-        Verdict::Size => 1,
-        Verdict::Field(_) => 2,
-        Verdict::Use(_) => 3,
-        Verdict::Start => 4,
-        Verdict::Untyped(_) => 5,
-        Verdict::Long => 6,
-        Verdict::Work => 7,
+    match why {
+        Refusal::Size => 1,
+        Refusal::Field(_) => 2,
+        Refusal::Use(_) => 3,
+        Refusal::Start => 4,
+        Refusal::Untyped(_) => 5,
+        Refusal::Long => 6,
+        Refusal::Work => 7,
     }
 }
 
-fn place_of(verdict: Verdict) -> u32
-    ensures { result ≡ place verdict }
+fn place_of(why: Refusal) -> u32
+    ensures { result ≡ refusal_place why }
 {
-    match verdict {
-        Verdict::Field(i) => i as u32,
-        Verdict::Use(k) => k as u32,
-        Verdict::Untyped(r) => r as u32,
+    match why {
+        Refusal::Field(i) => u32::from(i),
+        Refusal::Use(k) => u32::from(k),
+        Refusal::Untyped(r) => u32::from(r),
         _ => 0,
     }
 }
 
 // "visits are 0 unless the answer is 0 or 8 to 12."
-pub(crate) fn refuse(verdict: Verdict) -> Answer
-    ensures { result ≡ refusal verdict }
+pub(crate) fn refuse(why: Refusal) -> Answer
+    ensures { result ≡ refusal why }
 {
-    without_values(number_of(verdict), place_of(verdict), 0)
+    without_values(number_of(why), place_of(why), 0)
 }

@@ -2,17 +2,43 @@
 #![tactic(auto)]
 
 mod answers;
-mod limits;
+mod checks;
 mod whole;
 
 ghost use Rattle.std.specs.Prelude.{◌≡◌, length};
 ghost use Rattle.grammar.specs.declared.Mode.TheVariants.{Bench, Display};
 ghost use Rattle.grammar.specs.Answer.{answer, work_after};
 
-use grammar::Answer;
+use crate::answers::refuse;
+use crate::checks::checked;
+use crate::whole::run_table;
+use grammar::{Answer, Inputs, Mode};
 
-// A bench run takes any table of sound form. "A run (0, 8 to 12) leaves the first W words zero and the others untouched. Answers 1 to 7 change no
-// memory."
+// A run of either mode. "A run (0, 8 to 12) leaves the first W words zero and the others untouched. Answers 1 to 7 change no memory." (Here words, literals and message stand apart:
+// of a slice in a struct it isn't known that its words are 16-bit numbers.)
+pub fn run<'a>(
+    mode: Mode,
+    words: &[u16],
+    literals: &'a [u8],
+    message: &'a [u8],
+    budget: u32,
+    work: &mut [u32],
+) -> Answer
+    ensures gives { result ≡ answer mode words.now literals.now message.now budget (length work.old) }
+    ensures leaves { work.new ≡ work_after mode words.now literals.now message.now work.old }
+{
+    let inputs = Inputs {
+        words,
+        literals,
+        message,
+    };
+    match checked(mode, inputs, work.len()) {
+        Ok(()) => run_table(inputs, budget, work),
+        Err(why) => refuse(why),
+    }
+}
+
+// A bench run takes any table of sound form.
 pub fn bench<'a>(
     words: &[u16],
     literals: &'a [u8],
@@ -23,9 +49,7 @@ pub fn bench<'a>(
     ensures gives { result ≡ answer Bench words.now literals.now message.now budget (length work.old) }
     ensures leaves { work.new ≡ work_after Bench words.now literals.now message.now work.old }
 {
-    let table = form::check(words, literals);
-    let verdict = limits::followed_by(table, limits::limits(message.len(), work.len()));
-    whole::finish(verdict, words, literals, message, budget, work)
+    run(Mode::Bench, words, literals, message, budget, work)
 }
 
 // A display run takes only a table that passes the type rules: it never gets STUCK.
@@ -39,7 +63,5 @@ pub fn display<'a>(
     ensures gives { result ≡ answer Display words.now literals.now message.now budget (length work.old) }
     ensures leaves { work.new ≡ work_after Display words.now literals.now message.now work.old }
 {
-    let table = typing::type_check(words, literals);
-    let verdict = limits::followed_by(table, limits::limits(message.len(), work.len()));
-    whole::finish(verdict, words, literals, message, budget, work)
+    run(Mode::Display, words, literals, message, budget, work)
 }

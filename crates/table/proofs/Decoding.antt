@@ -1,14 +1,13 @@
 -- Which fields a kind's node is made of, and which numbers are no kind. Assumes nothing.
 use mathlib.Core.Bool.{Bool, true, false, ◌||◌}
 use mathlib.Core.List.{List}
-use mathlib.Core.Logic.{⊎_elim, ◌≢◌}
+use mathlib.Core.Logic.{◌≢◌}
 use mathlib.Core.Option.{none}
 use mathlib.Core.Path.{◌≡◌, refl, sym}
-use Prim.Native.Nat.{ℕ, zero, suc, ◌-◌, ◌≤◌, ◌<◌}
-use native.Mathlib.Nat.{eq-zero-or-pos}
+use Prim.Native.Nat.{ℕ, zero, suc}
 use native.Mathlib.Omega.{arith}
 use lib.Dec.{T, ltb}
-use lib.ListN.{get_or, get_or-eq_default}
+use lib.ListN.{get_or-eq_default}
 use denote.Enum.Declared.{tag_of}
 use mir.Val.{has_key}
 use types.Run.{OneOf, hit}
@@ -16,7 +15,6 @@ use borrow.Author.Tests.{ltb-true, ltb-false}
 use Rattle.laws.specs.Counting.{smallest_failing}
 use Rattle.laws.specs.Smallest.{smallest_all}
 use Rattle.laws.specs.Tests.{never}
-use Rattle.laws.specs.Apart.{past}
 use Rattle.grammar.specs.declared.Node.TheVariants as N
 use Rattle.grammar.specs.contracts.Node as node
 use Rattle.grammar.specs.Words.{kind_at, node_at, node_for, node_start, node_word, nodes, word}
@@ -34,43 +32,6 @@ two_fields (suc (suc (suc (suc (suc zero))))) a b c d e f g h i other = refl
 two_fields (suc (suc (suc (suc (suc (suc zero)))))) a b c d e f g h i other = refl
 two_fields (suc (suc (suc (suc (suc (suc (suc zero))))))) a b c d e f g h i other = absurd (other refl)
 two_fields (suc (suc (suc (suc (suc (suc (suc (suc kind)))))))) a b c d e f g h i other = refl
-
-module _ (kind a b : ℕ) where
-  -- 11 to 15
-  between : (n : ℕ) → n < 5 → get_or (nodes a b 0 0 0 0 0 0 0) (suc (suc (suc (suc (suc (suc (suc (suc (suc (suc (suc n))))))))))) N.Unknown ≡ N.Unknown
-  unfolding nodes
-  between zero h = refl
-  between (suc zero) h = refl
-  between (suc (suc zero)) h = refl
-  between (suc (suc (suc zero))) h = refl
-  between (suc (suc (suc (suc zero)))) h = refl
-  between (suc (suc (suc (suc (suc n))))) h = absurd (omega arith)
-
-  below_16 : 11 ≤ kind → kind < 16 → N.Unknown ≡ node_of_two kind a b
-  unfolding node_for node_of_two
-  below_16 low high =
-      let e : kind ≡ suc (suc (suc (suc (suc (suc (suc (suc (suc (suc (suc (kind - 11))))))))))) = omega arith in
-      rw e (sym (between (kind - 11) (omega arith)))
-
-  -- below 16 these are all
-  pub unknown_parsing : kind < 16 → kind ≢ 1 → kind ≢ 2 → kind ≢ 3 → kind ≢ 4 → kind ≢ 5 → kind ≢ 6 → kind ≢ 7 → kind ≢ 8 → kind ≢ 9 → kind ≢ 10
-      → N.Unknown ≡ node_of_two kind a b
-  unfolding node_for nodes node_of_two
-  unknown_parsing h n1 n2 n3 n4 n5 n6 n7 n8 n9 n10 =
-      ⊎_elim
-      (λ (e : kind ≡ 0). rw e)
-      (λ (h0 : 1 ≤ kind).
-      below_16 (past 10 (past 9 (past 8 (past 7 (past 6 (past 5 (past 4 (past 3 (past 2 (past 1 h0 n1) n2) n3) n4) n5) n6) n7) n8) n9) n10) h)
-      (eq-zero-or-pos kind)
-
-  -- from 16 on these are all
-  pub unknown_expression : 16 ≤ kind → kind ≢ 16 → kind ≢ 17 → kind ≢ 18 → kind ≢ 19 → kind ≢ 20 → kind ≢ 21 → kind ≢ 22 → kind ≢ 23 → kind ≢ 24 → kind ≢ 25
-      → kind ≢ 26 → kind ≢ 27 → kind ≢ 28 → N.Unknown ≡ node_of_two kind a b
-  unfolding node_for nodes node_of_two
-  unknown_expression h n16 n17 n18 n19 n20 n21 n22 n23 n24 n25 n26 n27 n28 =
-      sym
-      (get_or-eq_default (nodes a b 0 0 0 0 0 0 0) N.Unknown
-      (past 28 (past 27 (past 26 (past 25 (past 24 (past 23 (past 22 (past 21 (past 20 (past 19 (past 18 (past 17 (past 16 h n16) n17) n18) n19) n20) n21) n22) n23) n24) n25) n26) n27) n28))
 
 told : (b : Bool) → b ≡ true → T b
 told true e = tt

@@ -1,2 +1,3 @@
 pub mod Decoding
+pub mod Numbers
 pub mod Size

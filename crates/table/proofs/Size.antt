@@ -1,16 +1,27 @@
 -- SIZE: the facts that the rule gives, and back. Assumes nothing.
-use mathlib.Core.Path.{◌≡◌, refl, sym}
+use mathlib.Core.Path.{◌≡◌, refl}
 use mathlib.Core.List.{List}
-use mathlib.Core.Bool.{Bool, true, false}
+use mathlib.Core.Bool.{Bool, true, false, ◌&&◌}
 use Prim.Native.Nat.{ℕ, ◌+◌, ◌*◌, ◌≤◌}
-use native.Mathlib.Omega.{arith}
 use lib.Dec.{leb, eqb}
 use lib.ListN.{length}
 use borrow.Author.Tests.{leb-true, eqb-true, le-leb, eq-eqb}
 use Rattle.grammar.specs.Words.{rule_count, node_count, literal_count}
 use Rattle.grammar.specs.Form.{every, size_ok}
 use Rattle.laws.specs.Tests.{both}
-use Rattle.laws.specs.Range.{within, within_facts}
+use Rattle.laws.specs.Range.{within}
+
+-- brackets of tests make no difference
+in_order : (a b c d e f g h : Bool) → (((((a && (b && c)) && (d && e)) && f) && g) && h) ≡ (a && (b && (c && (d && (e && (f && (g && (h && true))))))))
+in_order false b c d e f g h = refl
+in_order true false c d e f g h = refl
+in_order true true false d e f g h = refl
+in_order true true true false e f g h = refl
+in_order true true true true false f g h = refl
+in_order true true true true true false g h = refl
+in_order true true true true true true false h = refl
+in_order true true true true true true true false = refl
+in_order true true true true true true true true = refl
 
 pub record Sized (words : List ℕ) (literal_bytes : ℕ) : Type 0 where
   pub three : 3 ≤ length words
@@ -59,28 +70,12 @@ module _ (words : List ℕ) (literal_bytes : ℕ) where
         eq-eqb literal_bytes (literal_count words) s.literals_are,
       )
 
-  -- what the tests of the code have found
-  pub size_found : (r k l : ℕ) → r ≡ rule_count words → k ≡ node_count words → l ≡ literal_count words → 3 ≤ length words → within 1 64 r ≡ true
-      → within 1 1024 k ≡ true → within 0 4096 l ≡ true → length words ≡ 3 + 15 * r + 10 * k → literal_bytes ≡ l → true ≡ size_ok words literal_bytes
-  size_found r k l e f g h a b c n m =
-      let x = within_facts 1 64 r a in
-      let y = within_facts 1 1024 k b in
-      let z = within_facts 0 4096 l c in
-      sym (size_right (record {
-        three = h;
-        rules_least = omega arith;
-        rules_most = omega arith;
-        nodes_least = omega arith;
-        nodes_most = omega arith;
-        literals_most = omega arith;
-        words_are = omega arith;
-        literals_are = omega arith;
-      }))
-
-  -- a table without one of these facts has not the right size
-  pub size_wrong : (Sized words literal_bytes → ⊥) → false ≡ size_ok words literal_bytes
-  size_wrong h = go (size_ok words literal_bytes) refl
-    where
-      go : (t : Bool) → size_ok words literal_bytes ≡ t → false ≡ t
-      go true e = absurd (h (size_facts e))
-      go false e = refl
+  -- the code's tests, one after the other
+  pub size_tests : (r k l : ℕ) → r ≡ rule_count words → k ≡ node_count words → l ≡ literal_count words → {roomy nodes literals long : Bool}
+      → roomy ≡ (leb 3 (length words) && within 1 64 r) → nodes ≡ (roomy && within 1 1024 k) → literals ≡ (nodes && leb l 4096)
+      → long ≡ (literals && eqb (length words) (3 + 15 * r + 10 * k)) → (long && eqb literal_bytes l) ≡ size_ok words literal_bytes
+  unfolding size_ok every
+  size_tests r k l x y z e f g h =
+      rw (h, g, f, e, x, y, z)
+      (in_order (leb 3 (length words)) (leb 1 (rule_count words)) (leb (rule_count words) 64) (leb 1 (node_count words)) (leb (node_count words) 1024) (leb (literal_count words) 4096)
+      (eqb (length words) (3 + 15 * rule_count words + 10 * node_count words)) (eqb literal_bytes (literal_count words)))

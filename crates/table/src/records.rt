@@ -2,8 +2,9 @@
 // words; each function answers every number, 0 past the table's end.
 ghost use Rattle.std.specs.Prelude.{◌≡◌, ◌+◌, ◌*◌, ◌<◌, ◌≤◌};
 ghost use Rattle.grammar.specs.Words.{inherited_count, literal_count, node_at, node_count, node_start, kind_at, node_word, returned_count, rule_count, rule_start, rule_word, word};
-ghost use Rattle.table.specs.Fields.{call_at, node_of_two, head_in, place_from};
+ghost use Rattle.table.specs.Fields.{call_at, head_in, place_from};
 
+use super::kinds::Kind;
 use grammar::{Arithmetic, Node, Operator};
 use values::words::signed_of;
 
@@ -11,7 +12,7 @@ use values::words::signed_of;
 pub fn word_at(words: &[u16], i: usize) -> u16
     ensures { result ≡ word words.now i }
 {
-    if i < words.len() { words[i] } else { 0 }
+    words.get(i).copied().unwrap_or(0)
 }
 
 // "Words 0 to 2: R rules, K nodes, L literal bytes."
@@ -37,21 +38,21 @@ pub fn literal_count(words: &[u16]) -> u16
 pub fn rule_start(r: u16) -> usize
     ensures { result ≡ rule_start r }
 {
-    3 + 15 * r as usize
+    3 + 15 * usize::from(r)
 }
 
 // "then K node records of 10": the first word of node k behind so many rules.
 pub fn node_start(rules: u16, k: u16) -> usize
     ensures { result ≡ 3 + 15 * rules + 10 * k }
 {
-    3 + 15 * rules as usize + 10 * k as usize
+    3 + 15 * usize::from(rules) + 10 * usize::from(k)
 }
 
 // Word j of rule r.
 pub fn rule_word(words: &[u16], r: u16, j: u16) -> u16
     ensures { result ≡ rule_word words.now r j }
 {
-    word_at(words, rule_start(r) + j as usize)
+    word_at(words, rule_start(r) + usize::from(j))
 }
 
 // "Node record: kind and fields a, b, .. (nine)."
@@ -65,14 +66,14 @@ pub fn kind_at(words: &[u16], k: u16) -> u16
 pub fn node_word(words: &[u16], k: u16, j: u16) -> u16
     ensures { result ≡ node_word words.now k j }
 {
-    word_at(words, node_start(rule_count(words), k) + j as usize)
+    word_at(words, node_start(rule_count(words), k) + usize::from(j))
 }
 
 // Where the record of node k lies: for readers that look at its kind first, and then only at the fields that this kind has.
 pub fn node_place(words: &[u16], k: u16) -> u32
     ensures { result ≡ node_start words.now k }
 {
-    3 + 15 * rule_count(words) as u32 + 10 * k as u32
+    3 + 15 * u32::from(rule_count(words)) + 10 * u32::from(k)
 }
 
 // The kind of the record at a place.
@@ -86,7 +87,7 @@ pub fn kind_in(words: &[u16], place: u32) -> u16
 pub fn field_in(words: &[u16], place: u32, j: u16) -> u16
     ensures { result ≡ word words.now (place + j) }
 {
-    word_at(words, place as usize + j as usize)
+    word_at(words, place as usize + usize::from(j))
 }
 
 // The kind and the fields a and b: all that an expression has.
@@ -101,7 +102,7 @@ pub struct Head {
 pub fn head_from(words: &[u16], first: u32, k: u16) -> Head
     ensures { result ≡ head_in words.now (place_from first k) }
 {
-    let at = first as usize + 10 * k as usize;
+    let at = first as usize + 10 * usize::from(k);
     if at + 2 < words.len() {
         return Head {
             kind: words[at],
@@ -114,6 +115,13 @@ pub fn head_from(words: &[u16], first: u32, k: u16) -> Head
         a: word_at(words, at + 1),
         b: word_at(words, at + 2),
     }
+}
+
+// Word i of those that begin at word `first` of rule r.
+fn rule_place(words: &[u16], r: u16, first: u8, i: u16) -> u16
+    ensures { result ≡ rule_word words.now r (first + i) }
+{
+    word_at(words, rule_start(r) + (usize::from(first) + usize::from(i)))
 }
 
 // "Rule record: body node; n inherited; four types; m returned; four returned nodes; four returned types."
@@ -132,7 +140,7 @@ pub fn inherited_count(words: &[u16], r: u16) -> u16
 pub fn inherited_type(words: &[u16], r: u16, i: u16) -> u16
     ensures { result ≡ rule_word words.now r (2 + i) }
 {
-    word_at(words, rule_start(r) + (2 + i as usize))
+    rule_place(words, r, 2, i)
 }
 
 pub fn returned_count(words: &[u16], r: u16) -> u16
@@ -144,56 +152,13 @@ pub fn returned_count(words: &[u16], r: u16) -> u16
 pub fn returned_node(words: &[u16], r: u16, i: u16) -> u16
     ensures { result ≡ rule_word words.now r (7 + i) }
 {
-    word_at(words, rule_start(r) + (7 + i as usize))
+    rule_place(words, r, 7, i)
 }
 
 pub fn returned_type(words: &[u16], r: u16, i: u16) -> u16
     ensures { result ≡ rule_word words.now r (11 + i) }
 {
-    word_at(words, rule_start(r) + (11 + i as usize))
-}
-
-// A parsing node that is no call, from its fields a and b.
-fn parsing_node(kind: u16, a: u16, b: u16) -> Node
-    requires { kind < 16 }
-    ensures { result ≡ node_of_two kind a b }
-{
-    match kind {
-        1 => Node::Empty,
-        2 => Node::Terminal(a),
-        3 => Node::Sequence(a, b),
-        4 => Node::Choice(a, b),
-        5 => Node::Repeat(a),
-        6 => Node::Not(a),
-        7 => Node::Call(a, b, 0, 0, 0, 0, 0, 0, 0),
-        8 => Node::Bind(a, b),
-        9 => Node::Update(a, b),
-        10 => Node::Constraint(a),
-        _ => Node::Unknown,
-    }
-}
-
-// An expression, from its fields a and b.
-fn expression_node(kind: u16, a: u16, b: u16) -> Node
-    requires { 16 ≤ kind }
-    ensures { result ≡ node_of_two kind a b }
-{
-    match kind {
-        16 => Node::Bool(a == 1),
-        17 => Node::Integer(signed_of(a, b)),
-        18 => Node::Text(a, b),
-        19 => Node::Slot(a),
-        20 => Node::Binary(Operator::Calculate(Arithmetic::Add), a, b),
-        21 => Node::Binary(Operator::Calculate(Arithmetic::Subtract), a, b),
-        22 => Node::Binary(Operator::Calculate(Arithmetic::Multiply), a, b),
-        23 => Node::Binary(Operator::Calculate(Arithmetic::Divide), a, b),
-        24 => Node::Binary(Operator::Equal, a, b),
-        25 => Node::Binary(Operator::Greater, a, b),
-        26 => Node::Binary(Operator::And, a, b),
-        27 => Node::Binary(Operator::Or, a, b),
-        28 => Node::Negation(a),
-        _ => Node::Unknown,
-    }
+    rule_place(words, r, 11, i)
 }
 
 // Node k, which is a call.
@@ -217,15 +182,32 @@ fn call_at(words: &[u16], k: u16) -> Node
 pub fn node_at(words: &[u16], k: u16) -> Node
     ensures { result ≡ node_at words.now k }
 {
-    let kind = kind_at(words, k);
-    if kind == 7 {
-        return call_at(words, k);
-    }
     let a = node_word(words, k, 1);
     let b = node_word(words, k, 2);
-    if kind < 16 {
-        parsing_node(kind, a, b)
-    } else {
-        expression_node(kind, a, b)
+    match Kind::from(kind_at(words, k)) {
+        Kind::Unknown => Node::Unknown,
+        Kind::Empty => Node::Empty,
+        Kind::Terminal => Node::Terminal(a),
+        Kind::Sequence => Node::Sequence(a, b),
+        Kind::Choice => Node::Choice(a, b),
+        Kind::Repeat => Node::Repeat(a),
+        Kind::Not => Node::Not(a),
+        Kind::Call => call_at(words, k),
+        Kind::Bind => Node::Bind(a, b),
+        Kind::Update => Node::Update(a, b),
+        Kind::Constraint => Node::Constraint(a),
+        Kind::Bool => Node::Bool(a == 1),
+        Kind::Integer => Node::Integer(signed_of(a, b)),
+        Kind::Text => Node::Text(a, b),
+        Kind::Slot => Node::Slot(a),
+        Kind::Add => Node::Binary(Operator::Calculate(Arithmetic::Add), a, b),
+        Kind::Subtract => Node::Binary(Operator::Calculate(Arithmetic::Subtract), a, b),
+        Kind::Multiply => Node::Binary(Operator::Calculate(Arithmetic::Multiply), a, b),
+        Kind::Divide => Node::Binary(Operator::Calculate(Arithmetic::Divide), a, b),
+        Kind::Equal => Node::Binary(Operator::Equal, a, b),
+        Kind::Greater => Node::Binary(Operator::Greater, a, b),
+        Kind::And => Node::Binary(Operator::And, a, b),
+        Kind::Or => Node::Binary(Operator::Or, a, b),
+        Kind::Negation => Node::Negation(a),
     }
 }

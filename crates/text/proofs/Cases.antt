@@ -4,11 +4,8 @@ use mathlib.Core.Path.{◌≡◌, refl}
 use mathlib.Core.List.{List, [], ◌∷◌, map}
 use Prim.Native.Nat.{ℕ}
 use lib.IntN.{pos, negsuc}
-use Rattle.text.specs.declared.Place.TheVariants as P
-use Rattle.text.specs.declared.Number.{Number}
-use Rattle.text.specs.declared.Number.TheVariants as N
-use Rattle.text.specs.declared.Bytes.{Bytes}
-use Rattle.text.specs.declared.Bytes.TheVariants as B
+use Rattle.std.specs.declared.option.Option.{Option}
+use Rattle.std.specs.declared.option.Option.TheVariants.{Some, None}
 use Rattle.text.specs.Stored.{Taken, taking}
 use Rattle.text.specs.Written.{digits, decimal, signed_decimal, hex_digit, hex}
 use Rattle.text.specs.Found.{after_key, digit, grown, number_from, number, hex_value, pair_value, pairs}
@@ -41,29 +38,29 @@ pairs_written = refl
 -- ════ Decimals that are read ════
 
 -- up to byte 10, at place 3 of a text
-abbrev read : (limit : ℕ) → List ℕ → Number
+abbrev read : (limit : ℕ) → List ℕ → Option (ℕ × ℕ)
 read limit l = number 10 limit 3 l
 
 -- `0`, `7`, `10`, `65535`, with a byte behind the line
 pub numbers_read :
     map (read 65535) ((48 ∷ 10 ∷ []) ∷ (55 ∷ 10 ∷ 55 ∷ []) ∷ (49 ∷ 48 ∷ 10 ∷ []) ∷ (54 ∷ 53 ∷ 53 ∷ 51 ∷ 53 ∷ 10 ∷ []) ∷ [])
-    ≡ N.Is 0 5 ∷ N.Is 7 5 ∷ N.Is 10 6 ∷ N.Is 65535 9 ∷ []
+    ≡ Some (0, 5) ∷ Some (7, 5) ∷ Some (10, 6) ∷ Some (65535, 9) ∷ []
 unfolding number number_from grown digit
 numbers_read = refl
 
 -- 'no leading zero': `01`, `00`
-pub leading_zeros : map (read 65535) ((48 ∷ 49 ∷ 10 ∷ []) ∷ (48 ∷ 48 ∷ 10 ∷ []) ∷ []) ≡ N.Wrong ∷ N.Wrong ∷ []
+pub leading_zeros : map (read 65535) ((48 ∷ 49 ∷ 10 ∷ []) ∷ (48 ∷ 48 ∷ 10 ∷ []) ∷ []) ≡ None ∷ None ∷ []
 unfolding number number_from grown digit
 leading_zeros = refl
 
 -- the greatest 32-bit number, and one more; one more than 65535
 pub above_the_limit :
     map (read 4294967295) ((52 ∷ 50 ∷ 57 ∷ 52 ∷ 57 ∷ 54 ∷ 55 ∷ 50 ∷ 57 ∷ 53 ∷ 10 ∷ []) ∷ (52 ∷ 50 ∷ 57 ∷ 52 ∷ 57 ∷ 54 ∷ 55 ∷ 50 ∷ 57 ∷ 54 ∷ 10 ∷ []) ∷ [])
-    ≡ N.Is 4294967295 14 ∷ N.Wrong ∷ []
+    ≡ Some (4294967295, 14) ∷ None ∷ []
 unfolding number number_from grown digit
 above_the_limit = refl
 
-pub above_16_bits : read 65535 (54 ∷ 53 ∷ 53 ∷ 51 ∷ 54 ∷ 10 ∷ []) ≡ N.Wrong
+pub above_16_bits : read 65535 (54 ∷ 53 ∷ 53 ∷ 51 ∷ 54 ∷ 10 ∷ []) ≡ None
 unfolding number number_from grown digit
 above_16_bits = refl
 
@@ -79,7 +76,7 @@ pub no_numbers :
     ∷ (49 ∷ 58 ∷ 10 ∷ [])
     ∷ (49 ∷ 32 ∷ [])
     ∷ [])
-    ≡ N.Wrong ∷ N.Wrong ∷ N.Wrong ∷ N.Wrong ∷ N.Wrong ∷ N.Wrong ∷ N.Wrong ∷ N.Wrong ∷ []
+    ≡ None ∷ None ∷ None ∷ None ∷ None ∷ None ∷ None ∷ None ∷ []
 unfolding number number_from grown digit
 no_numbers = refl
 
@@ -87,18 +84,19 @@ no_numbers = refl
 
 -- `0` to `9`, `a` to `f`, and the bytes beside them; 'all hex is lower-case': `A`, `F`
 pub hex_digits :
-    map hex_value (47 ∷ 48 ∷ 57 ∷ 58 ∷ 65 ∷ 70 ∷ 96 ∷ 97 ∷ 102 ∷ 103 ∷ []) ≡ 16 ∷ 0 ∷ 9 ∷ 16 ∷ 16 ∷ 16 ∷ 16 ∷ 10 ∷ 15 ∷ 16 ∷ []
+    map hex_value (47 ∷ 48 ∷ 57 ∷ 58 ∷ 65 ∷ 70 ∷ 96 ∷ 97 ∷ 102 ∷ 103 ∷ [])
+    ≡ None ∷ Some 0 ∷ Some 9 ∷ None ∷ None ∷ None ∷ None ∷ Some 10 ∷ Some 15 ∷ None ∷ []
 unfolding hex_value digit
 hex_digits = refl
 
 -- at place 3 of a text
-abbrev read_pairs : List ℕ → Taken Bytes
+abbrev read_pairs : List ℕ → Taken (Option (ℕ × ℕ))
 read_pairs l = pairs 0 3 l
 
 -- no pair; `0aff309f`, with a byte behind the line
 pub pairs_read :
     map read_pairs ((10 ∷ []) ∷ (48 ∷ 97 ∷ 102 ∷ 102 ∷ 51 ∷ 48 ∷ 57 ∷ 102 ∷ 10 ∷ 55 ∷ []) ∷ [])
-    ≡ taking [] (B.Are 0 4) ∷ taking (10 ∷ 255 ∷ 48 ∷ 159 ∷ []) (B.Are 4 12) ∷ []
+    ≡ taking [] (Some (0, 4)) ∷ taking (10 ∷ 255 ∷ 48 ∷ 159 ∷ []) (Some (4, 12)) ∷ []
 unfolding pairs pair_value hex_value digit
 pairs_read = refl
 
@@ -113,7 +111,7 @@ pub no_pairs :
     ∷ (65 ∷ 48 ∷ 10 ∷ [])
     ∷ (48 ∷ 103 ∷ 10 ∷ [])
     ∷ [])
-    ≡ B.Wrong ∷ B.Wrong ∷ B.Wrong ∷ B.Wrong ∷ B.Wrong ∷ B.Wrong ∷ B.Wrong ∷ []
+    ≡ None ∷ None ∷ None ∷ None ∷ None ∷ None ∷ None ∷ []
 unfolding pairs pair_value hex_value digit
 no_pairs = refl
 
@@ -123,6 +121,6 @@ no_pairs = refl
 pub keys :
     map (after_key (97 ∷ 61 ∷ []) 3)
     ((97 ∷ 61 ∷ 55 ∷ []) ∷ (97 ∷ 61 ∷ []) ∷ (97 ∷ []) ∷ (97 ∷ 55 ∷ []) ∷ (98 ∷ 61 ∷ []) ∷ [])
-    ≡ P.At 5 ∷ P.At 5 ∷ P.Wrong ∷ P.Wrong ∷ P.Wrong ∷ []
+    ≡ Some 5 ∷ Some 5 ∷ None ∷ None ∷ None ∷ []
 unfolding after_key
 keys = refl

@@ -11,7 +11,8 @@ use lib.Seq.{take_all}
 use lib.Signed.{lt_z}
 use borrow.Author.Tests.{lt-ltb, le-ltb, ltb-true, ltb-false}
 use Rattle.text.specs.Written.{digits, decimal, signed_decimal}
-use Rattle.text.specs.Found.{digit, too_large}
+use Rattle.std.specs.declared.option.Option.TheVariants.{Some, None}
+use Rattle.text.specs.Found.{digit}
 
 -- ════ What is written ════
 
@@ -113,37 +114,23 @@ signed_other (negsuc n) e = let z : ◌≡◌ {A = ℕ} 0 1 = cc in absurd (omeg
 
 -- ════ One digit ════
 
-pub digit_is : (d : ℕ) → d < 10 → digit (48 + d) ≡ d
+pub digit_is : (d : ℕ) → d < 10 → digit (48 + d) ≡ Some d
 unfolding digit
-digit_is d h = rw (le-ltb (48 + d) 48 (omega arith), le-ltb 57 (48 + d) (omega arith)) (omega arith)
+digit_is d h = let e : 48 + d - 48 ≡ d = omega arith in rw (le-ltb (48 + d) 48 (omega arith), le-ltb 57 (48 + d) (omega arith)) (ap Some e)
 
-pub digit_above : (b : ℕ) → 57 < b → digit b ≡ too_large
-unfolding digit
-digit_above b h = rw (le-ltb b 48 (omega arith), lt-ltb 57 b h)
-
-pub digit_most : (b : ℕ) → digit b ≤ too_large
-unfolding digit
-digit_most b = go (ltb b 48) (ltb 57 b) refl
-  where
-    go : (s t : Bool) → ltb 57 b ≡ t → cond s too_large (cond t too_large (b - 48)) ≤ too_large
-    go true t e = omega arith
-    go false true e = omega arith
-    go false false e = omega (arith, ltb-false 57 b e)
-
--- a byte that is not too large is a digit
 pub record IsDigit (b d : ℕ) : Type 0 where
   pub small : d ≤ 9
   pub byte : b ≡ 48 + d
 
-pub digit_byte : (b : ℕ) → digit b < too_large → IsDigit b (digit b)
+pub digit_byte : (b d : ℕ) → digit b ≡ Some d → IsDigit b d
 unfolding digit
-digit_byte b = below (ltb b 48) refl
+digit_byte b d = go (ltb b 48) (ltb 57 b) refl refl
   where
-    above : (t : Bool) → ltb 57 b ≡ t → 48 ≤ b → cond t too_large (b - 48) < too_large → IsDigit b (cond t too_large (b - 48))
-    above true e g h = absurd (omega arith)
-    above false e g h = let k = ltb-false 57 b e in record { small = omega arith; byte = omega arith }
-
-    below : (t : Bool) → ltb b 48 ≡ t → cond t too_large (cond (ltb 57 b) too_large (b - 48)) < too_large
-        → IsDigit b (cond t too_large (cond (ltb 57 b) too_large (b - 48)))
-    below true e h = absurd (omega arith)
-    below false e h = above (ltb 57 b) refl (ltb-false b 48 e) h
+    go : (s t : Bool) → ltb b 48 ≡ s → ltb 57 b ≡ t → cond s None (cond t None (Some (b - 48))) ≡ Some d → IsDigit b d
+    go true t e f h = absurd (cc)
+    go false true e f h = absurd (cc)
+    go false false e f h =
+        let x : b - 48 ≡ d = cc in
+        let y = ltb-false b 48 e in
+        let z = ltb-false 57 b f in
+        record { small = omega arith; byte = omega arith }

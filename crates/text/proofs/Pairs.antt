@@ -8,14 +8,17 @@ use native.Mathlib.Omega.{arith}
 use lib.Dec.{ltb, eqb}
 use lib.ListN.{length, drop, get_or, length-append, drop_of_length-le}
 use borrow.Author.Tests.{lt-ltb, le-ltb, ne_eqb, eq-eqb, ltb-true, ltb-false, eqb-true}
+use Rattle.std.proofs.lemmas.Option.{some_pair_parts}
 use Rattle.laws.specs.Below.{AllBelow}
 use Rattle.laws.specs.Parts.{drop_one, Stands, stands}
-use Rattle.text.specs.declared.Bytes.{Bytes}
-use Rattle.text.specs.declared.Bytes.TheVariants.{Are, Wrong}
+use Rattle.std.specs.Prelude.{option_map, option_and_then}
+use Rattle.std.specs.Option.{option_map_or}
+use Rattle.std.specs.declared.option.Option.{Option}
+use Rattle.std.specs.declared.option.Option.TheVariants.{Some, None}
 use Rattle.text.specs.Stored.{Taken, taking, also}
 use Rattle.text.specs.Written.{hex_digit, hex}
 use Rattle.text.specs.Found.{digit, hex_value, pair_value, pairs}
-use Rattle.text.proofs.Decimals.{digit_is, digit_above, IsDigit, digit_byte}
+use Rattle.text.proofs.Decimals.{digit_is, digit_byte}
 
 -- ════ Turn by turn ════
 
@@ -33,41 +36,48 @@ unfolding hex
 hex_length [] = refl
 hex_length (b ∷ l) = omega (arith, hex_length l)
 
-module _ (text : List ℕ) (n i : ℕ) where
-  pub pairs_past : length text ≤ i → pairs n i (drop i text) ≡ taking [] Wrong
-  unfolding pairs
-  pairs_past h = rw (drop_of_length-le text h)
+-- ════ A chunk of two bytes, or of the last byte, in front of what is left ════
 
-  pub pairs_end : i < length text → get_or text i 0 ≡ 10 → pairs n i (drop i text) ≡ taking [] (Are n (i + 1))
+module _ (n p : ℕ) where
+  pub pairs_past : (l : List ℕ) → length l ≡ 0 → pairs n p l ≡ taking [] None
   unfolding pairs
-  pairs_end h g = rw (drop_one text i 0 h) (ends (get_or text i 0) (drop (i + 1) text) g)
+  pairs_past [] h = refl
+  pairs_past (b ∷ l) h = absurd (omega arith)
+
+  pub pairs_end : (l chunk rest : List ℕ) → l ≡ chunk ++ rest → 0 < length chunk → get_or chunk 0 0 ≡ 10 → pairs n p l ≡ taking [] (Some (n, p + 1))
+  unfolding pairs
+  pairs_end l [] rest e h g = absurd (omega arith)
+  pairs_end l (b ∷ chunk) rest e h g = rw e (go (chunk ++ rest))
     where
-      ends : (b : ℕ) (l : List ℕ) → b ≡ 10 → pairs n i (b ∷ l) ≡ taking [] (Are n (i + 1))
-      ends b [] e = rw (eq-eqb b 10 e)
-      ends b (c ∷ l) e = rw (eq-eqb b 10 e)
+      go : (m : List ℕ) → pairs n p (b ∷ m) ≡ taking [] (Some (n, p + 1))
+      go [] = rw (eq-eqb b 10 g)
+      go (c ∷ m) = rw (eq-eqb b 10 g)
 
-  module _ (g : get_or text i 0 ≡ 10 → ⊥) where
-    pub pairs_odd : i < length text → length text - i ≡ 1 → pairs n i (drop i text) ≡ taking [] Wrong
+  pub pairs_odd : (l chunk rest : List ℕ) → l ≡ chunk ++ rest → length chunk ≡ 1 → length rest ≡ 0 → (get_or chunk 0 0 ≡ 10 → ⊥) → pairs n p l ≡ taking [] None
+  unfolding pairs
+  pairs_odd l [] rest e h k g = absurd (omega arith)
+  pairs_odd l (b ∷ c ∷ chunk) rest e h k g = absurd (omega arith)
+  pairs_odd l (b ∷ []) (c ∷ rest) e h k g = absurd (omega arith)
+  pairs_odd l (b ∷ []) [] e h k g = rw (e, ne_eqb b 10 g)
+
+  module _ (l chunk rest : List ℕ) (e : l ≡ chunk ++ rest) (h : length chunk ≡ 2) (g : get_or chunk 0 0 ≡ 10 → ⊥) where
+    pub pairs_two : pairs n p l ≡ option_map_or (λ x. also (x ∷ []) (pairs (n + 1) (p + 2) rest)) (pair_value (get_or chunk 0 0) (get_or chunk 1 0)) (taking [] None)
     unfolding pairs
-    pairs_odd h s =
-        let e : length text ≤ i + 1 = omega arith in
-        rw (drop_one text i 0 h, drop_of_length-le text e, ne_eqb (get_or text i 0) 10 g)
+    pairs_two = rw e (go chunk h g)
+      where
+        go : (chunk : List ℕ) → length chunk ≡ 2 → (get_or chunk 0 0 ≡ 10 → ⊥)
+            → pairs n p (chunk ++ rest) ≡ option_map_or (λ x. also (x ∷ []) (pairs (n + 1) (p + 2) rest)) (pair_value (get_or chunk 0 0) (get_or chunk 1 0)) (taking [] None)
+        go (b ∷ c ∷ []) h g = rw (ne_eqb b 10 g)
+        go [] h g = absurd (omega arith)
+        go (b ∷ []) h g = absurd (omega arith)
+        go (b ∷ c ∷ d ∷ chunk) h g = absurd (omega arith)
 
-    module _ (h : i + 1 < length text) where
-      two : drop i text ≡ get_or text i 0 ∷ get_or text (i + 1) 0 ∷ drop (i + 2) text
-      two =
-          let k : i < length text = omega arith in
-          let a : i + 1 + 1 ≡ i + 2 = omega arith in
-          rw (drop_one text i 0 k, drop_one text (i + 1) 0 h, a)
+    pub pairs_wrong : pair_value (get_or chunk 0 0) (get_or chunk 1 0) ≡ None → pairs n p l ≡ taking [] None
+    pairs_wrong s = pairs_two ∙ rw s
 
-      pub pairs_wrong : 255 < pair_value (get_or text i 0) (get_or text (i + 1) 0) → pairs n i (drop i text) ≡ taking [] Wrong
-      unfolding pairs
-      pairs_wrong s = rw (two, ne_eqb (get_or text i 0) 10 g, lt-ltb 255 (pair_value (get_or text i 0) (get_or text (i + 1) 0)) s)
-
-      pub pairs_more : pair_value (get_or text i 0) (get_or text (i + 1) 0) ≤ 255 → (m : ℕ) → m ≡ n + 1
-          → pairs n i (drop i text) ≡ also (pair_value (get_or text i 0) (get_or text (i + 1) 0) ∷ []) (pairs m (i + 2) (drop (i + 2) text))
-      unfolding pairs
-      pairs_more s m e = rw (e, two, ne_eqb (get_or text i 0) 10 g, le-ltb 255 (pair_value (get_or text i 0) (get_or text (i + 1) 0)) s)
+    pub pairs_more : (x m : ℕ) → pair_value (get_or chunk 0 0) (get_or chunk 1 0) ≡ Some x → m ≡ n + 1
+        → pairs n p l ≡ also (x ∷ []) (pairs m (p + 2) rest)
+    pairs_more x m s f = pairs_two ∙ rw (s, f)
 
 -- ════ One digit ════
 
@@ -86,97 +96,100 @@ hex_low n = go (ltb n 10) refl
     go true e = omega (arith, hex_small n (ltb-true n 10 e))
     go false e = omega (arith, hex_letter n (ltb-false n 10 e))
 
-value_digit : (d : ℕ) → d < 10 → hex_value (48 + d) ≡ d
+value_digit : (d : ℕ) → d < 10 → hex_value (48 + d) ≡ Some d
 unfolding hex_value
-value_digit d h = rw (digit_is d h, le-ltb 9 d (omega arith))
+value_digit d h = rw (lt-ltb (48 + d) 97 (omega arith), digit_is d h)
 
-value_letter : (n : ℕ) → 10 ≤ n → n < 16 → hex_value (97 + (n - 10)) ≡ n
+value_letter : (n : ℕ) → 10 ≤ n → n < 16 → hex_value (97 + (n - 10)) ≡ Some n
 unfolding hex_value
 value_letter n h g =
-    rw (digit_above (97 + (n - 10)) (omega arith), le-ltb (97 + (n - 10)) 97 (omega arith), le-ltb 102 (97 + (n - 10)) (omega arith)) (omega arith)
+    let e : 10 + (97 + (n - 10) - 97) ≡ n = omega arith in
+    rw (le-ltb (97 + (n - 10)) 97 (omega arith), le-ltb 102 (97 + (n - 10)) (omega arith)) (ap Some e)
 
-value_is : (n : ℕ) → n < 16 → hex_value (hex_digit n) ≡ n
+value_is : (n : ℕ) → n < 16 → hex_value (hex_digit n) ≡ Some n
 value_is n h = go (ltb n 10) refl
   where
-    go : (t : Bool) → ltb n 10 ≡ t → hex_value (hex_digit n) ≡ n
+    go : (t : Bool) → ltb n 10 ≡ t → hex_value (hex_digit n) ≡ Some n
     go true e = let k : n < 10 = ltb-true n 10 e in rw (hex_small n k) (value_digit n k)
     go false e = let k : 10 ≤ n = ltb-false n 10 e in rw (hex_letter n k) (value_letter n k h)
 
 -- a byte with a hex digit's value is that digit
-value_byte : (b : ℕ) → hex_value b ≤ 15 → b ≡ hex_digit (hex_value b)
+pub record IsHex (b n : ℕ) : Type 0 where
+  pub small : n ≤ 15
+  pub byte : b ≡ hex_digit n
+
+pub value_byte : (b n : ℕ) → hex_value b ≡ Some n → IsHex b n
 unfolding hex_value
-value_byte b = first (ltb 9 (digit b)) refl
+value_byte b n = go (ltb b 97) (ltb 102 b) refl refl
   where
-    third : (t : Bool) → ltb 102 b ≡ t → 97 ≤ b → cond t 16 (10 + (b - 97)) ≤ 15 → b ≡ hex_digit (cond t 16 (10 + (b - 97)))
-    third true e g h = absurd (omega arith)
-    third false e g h = omega (arith, hex_letter (10 + (b - 97)) (omega arith))
+    go : (s t : Bool) → ltb b 97 ≡ s → ltb 102 b ≡ t → cond s (digit b) (cond t None (Some (10 + (b - 97)))) ≡ Some n → IsHex b n
+    go true t e f h =
+        let i = digit_byte b n h in
+        record { small = omega (arith, i.small); byte = i.byte ∙ sym (hex_small n (omega (arith, i.small))) }
+    go false true e f h = absurd (cc)
+    go false false e f h =
+        let x : 10 + (b - 97) ≡ n = cc in
+        let y = ltb-false b 97 e in
+        let z = ltb-false 102 b f in
+        record { small = omega arith; byte = omega (arith, hex_letter n (omega arith)) }
 
-    second : (t : Bool) → ltb b 97 ≡ t → cond t 16 (cond (ltb 102 b) 16 (10 + (b - 97))) ≤ 15
-        → b ≡ hex_digit (cond t 16 (cond (ltb 102 b) 16 (10 + (b - 97))))
-    second true e h = absurd (omega arith)
-    second false e h = third (ltb 102 b) refl (ltb-false b 97 e) h
-
-    first : (t : Bool) → ltb 9 (digit b) ≡ t → cond t (cond (ltb b 97) 16 (cond (ltb 102 b) 16 (10 + (b - 97)))) (digit b) ≤ 15
-        → b ≡ hex_digit (cond t (cond (ltb b 97) 16 (cond (ltb 102 b) 16 (10 + (b - 97)))) (digit b))
-    first true e h = second (ltb b 97) refl h
-    first false e h =
-        let i : IsDigit b (digit b) = digit_byte b (omega (arith, ltb-false 9 (digit b) e)) in
-        i.byte ∙ sym (hex_small (digit b) (omega arith))
-
-pair_is : (x : ℕ) → x < 256 → pair_value (hex_digit (x / 16)) (hex_digit (x % 16)) ≡ x
+pair_is : (x : ℕ) → x < 256 → pair_value (hex_digit (x / 16)) (hex_digit (x % 16)) ≡ Some x
 unfolding pair_value
 pair_is x h =
-    rw (value_is (x / 16) (omega arith), value_is (x % 16) (omega arith), le-ltb 15 (x / 16) (omega arith), le-ltb 15 (x % 16) (omega arith)) (omega arith)
+    let e : x / 16 * 16 + x % 16 ≡ x = omega arith in
+    rw (value_is (x / 16) (omega arith), value_is (x % 16) (omega arith)) (ap Some e)
 
-pair_bytes : (b c : ℕ) → pair_value b c ≤ 255 → (b ≡ hex_digit (pair_value b c / 16)) × (c ≡ hex_digit (pair_value b c % 16))
+record IsPair (b c x : ℕ) : Type 0 where
+  small : x ≤ 255
+  high : b ≡ hex_digit (x / 16)
+  low : c ≡ hex_digit (x % 16)
+
+pair_bytes : (b c x : ℕ) → pair_value b c ≡ Some x → IsPair b c x
 unfolding pair_value
-pair_bytes b c = first (ltb 15 (hex_value b)) refl
+pair_bytes b c x = go (hex_value b) (hex_value c) refl refl
   where
-    second : (t : Bool) → ltb 15 (hex_value c) ≡ t → hex_value b ≤ 15 → cond t 256 (hex_value b * 16 + hex_value c) ≤ 255
-        → (b ≡ hex_digit (cond t 256 (hex_value b * 16 + hex_value c) / 16)) × (c ≡ hex_digit (cond t 256 (hex_value b * 16 + hex_value c) % 16))
-    second true e g h = absurd (omega arith)
-    second false e g h =
-        let k : hex_value c ≤ 15 = ltb-false 15 (hex_value c) e in
-        let q : (hex_value b * 16 + hex_value c) / 16 ≡ hex_value b = omega arith in
-        let r : (hex_value b * 16 + hex_value c) % 16 ≡ hex_value c = omega arith in
-        (value_byte b g ∙ ap hex_digit (sym q), value_byte c k ∙ ap hex_digit (sym r))
-
-    first : (t : Bool) → ltb 15 (hex_value b) ≡ t → cond t 256 (cond (ltb 15 (hex_value c)) 256 (hex_value b * 16 + hex_value c)) ≤ 255
-        → (b ≡ hex_digit (cond t 256 (cond (ltb 15 (hex_value c)) 256 (hex_value b * 16 + hex_value c)) / 16))
-        × (c ≡ hex_digit (cond t 256 (cond (ltb 15 (hex_value c)) 256 (hex_value b * 16 + hex_value c)) % 16))
-    first true e h = absurd (omega arith)
-    first false e h = second (ltb 15 (hex_value c)) refl (ltb-false 15 (hex_value b) e) h
+    go : (o u : Option ℕ) → hex_value b ≡ o → hex_value c ≡ u → option_and_then (λ high. option_map (λ low. high * 16 + low) u) o ≡ Some x
+        → IsPair b c x
+    go None u e f h = absurd (cc)
+    go (Some m) None e f h = absurd (cc)
+    go (Some m) (Some n) e f h =
+        let i = value_byte b m e in
+        let j = value_byte c n f in
+        let y : m * 16 + n ≡ x = cc in
+        let q : m ≡ x / 16 = omega (arith, i.small, j.small) in
+        let r : n ≡ x % 16 = omega (arith, i.small, j.small) in
+        record { small = omega (arith, i.small, j.small); high = i.byte ∙ ap hex_digit q; low = j.byte ∙ ap hex_digit r }
 
 -- ════ Both ways round ════
 
-pairs_close : (n p : ℕ) (l : List ℕ) → pairs n p (10 ∷ l) ≡ taking [] (Are n (p + 1))
+pairs_close : (n p : ℕ) (l : List ℕ) → pairs n p (10 ∷ l) ≡ taking [] (Some (n, p + 1))
 unfolding pairs
 pairs_close n p [] = refl
 pairs_close n p (c ∷ l) = refl
 
 pairs_read : (bytes : List ℕ) (n p : ℕ) (rest : List ℕ) → AllBelow 256 bytes
-    → pairs n p (hex bytes ++ 10 ∷ rest) ≡ taking bytes (Are (n + length bytes) (p + 2 * length bytes + 1))
+    → pairs n p (hex bytes ++ 10 ∷ rest) ≡ taking bytes (Some (n + length bytes, p + 2 * length bytes + 1))
 unfolding pairs hex
 pairs_read [] n p rest h =
-    pairs_close n p rest ∙ ap (λ (k : ℕ). taking [] (Are k (p + 1))) (sym (add-zero n))
-    ∙ ap (λ (k : ℕ). taking [] (Are (n + 0) (k + 1))) (sym (add-zero p))
+    pairs_close n p rest ∙ ap (λ (k : ℕ). taking [] (Some (k, p + 1))) (sym (add-zero n))
+    ∙ ap (λ (k : ℕ). taking [] (Some (n + 0, k + 1))) (sym (add-zero p))
 pairs_read (b ∷ bytes) n p rest h =
     let x : b < 256 = h.0 in
     let a : n + 1 + length bytes ≡ n + suc (length bytes) = omega arith in
     let d : p + 2 + 2 * length bytes + 1 ≡ p + 2 * suc (length bytes) + 1 = omega arith in
-    rw (ne_eqb (hex_digit (b / 16)) 10 (omega (arith, hex_low (b / 16))), pair_is b x, le-ltb 255 b (omega arith))
-    (ap (also (b ∷ [])) (pairs_read bytes (n + 1) (p + 2) rest h.1) ∙ ap (λ (k : ℕ). taking (b ∷ bytes) (Are k (p + 2 + 2 * length bytes + 1))) a
-    ∙ ap (λ (k : ℕ). taking (b ∷ bytes) (Are (n + suc (length bytes)) k)) d)
+    rw (ne_eqb (hex_digit (b / 16)) 10 (omega (arith, hex_low (b / 16))), pair_is b x)
+    (ap (also (b ∷ [])) (pairs_read bytes (n + 1) (p + 2) rest h.1) ∙ ap (λ (k : ℕ). taking (b ∷ bytes) (Some (k, p + 2 + 2 * length bytes + 1))) a
+    ∙ ap (λ (k : ℕ). taking (b ∷ bytes) (Some (n + suc (length bytes), k))) d)
 
 -- pairs that stand in the text are read
 pub pairs_reads : (text bytes : List ℕ) (p q : ℕ) → AllBelow 256 bytes → Stands text p (hex bytes ++ (10 ∷ [])) q
-    → pairs 0 p (drop p text) ≡ taking bytes (Are (length bytes) q)
+    → pairs 0 p (drop p text) ≡ taking bytes (Some (length bytes, q))
 pairs_reads text bytes p q h s =
     let e : drop p text ≡ hex bytes ++ 10 ∷ drop q text = s.is ∙ append_assoc (hex bytes) (10 ∷ []) (drop q text) in
     let a : 0 + length bytes ≡ length bytes = omega arith in
     let b : p + 2 * length bytes + 1 ≡ q = omega (arith, s.place, length-append (hex bytes) (10 ∷ []), hex_length bytes) in
-    ap (pairs 0 p) e ∙ pairs_read bytes 0 p (drop q text) h ∙ ap (λ (k : ℕ). taking bytes (Are k (p + 2 * length bytes + 1))) a
-    ∙ ap (λ (k : ℕ). taking bytes (Are (length bytes) k)) b
+    ap (pairs 0 p) e ∙ pairs_read bytes 0 p (drop q text) h ∙ ap (λ (k : ℕ). taking bytes (Some (k, p + 2 * length bytes + 1))) a
+    ∙ ap (λ (k : ℕ). taking bytes (Some (length bytes, k))) b
 
 -- the bytes were written as pairs, and the text goes on with rest at q
 record Was (p : ℕ) (l bytes : List ℕ) (n m q : ℕ) : Type 0 where
@@ -186,50 +199,57 @@ record Was (p : ℕ) (l bytes : List ℕ) (n m q : ℕ) : Type 0 where
   count : m ≡ n + length bytes
   all : AllBelow 256 bytes
 
-pairs_was : (l : List ℕ) (n p m q : ℕ) → (pairs n p l).found ≡ Are m q → Was p l (pairs n p l).numbers n m q
+-- no more is taken, with either finding
+abbrev counted : (n q : ℕ) → Taken (Option (ℕ × ℕ))
+counted n q = taking [] (Some (n, q))
+
+abbrev none_more : Taken (Option (ℕ × ℕ))
+none_more = taking [] None
+
+pairs_was : (l : List ℕ) (n p m q : ℕ) → (pairs n p l).found ≡ Some (m, q) → Was p l (pairs n p l).numbers n m q
 unfolding pairs hex
 pairs_was [] n p m q e = let z : ◌≡◌ {A = ℕ} 0 1 = cc in absurd (omega arith)
 pairs_was (b ∷ []) n p m q e = go (eqb b 10) refl e
   where
-    go : (t : Bool) → eqb b 10 ≡ t → (cond t (taking [] (Are n (p + 1))) (taking [] Wrong)).found ≡ Are m q
-        → Was p (b ∷ []) (cond t (taking [] (Are n (p + 1))) (taking [] Wrong)).numbers n m q
+    go : (t : Bool) → eqb b 10 ≡ t → (cond t (counted n (p + 1)) none_more).found ≡ Some (m, q)
+        → Was p (b ∷ []) (cond t (counted n (p + 1)) none_more).numbers n m q
     go true g f =
-        let x : n ≡ m = cc in
-        let y : p + 1 ≡ q = cc in
+        let same = some_pair_parts n m (p + 1) q f in
+        let x : n ≡ m = same.0 in
+        let y : p + 1 ≡ q = same.1 in
         record { rest = []; text = ap (λ (z : ℕ). z ∷ []) (eqb-true b 10 g); place = omega arith; count = omega arith; all = tt }
     go false g f = let z : ◌≡◌ {A = ℕ} 0 1 = cc in absurd (omega arith)
 pairs_was (b ∷ c ∷ l) n p m q e = first (eqb b 10) refl e (λ f. pairs_was l (n + 1) (p + 2) m q f)
   where
-    deeper : Taken Bytes
-    deeper = also (pair_value b c ∷ []) (pairs (n + 1) (p + 2) l)
+    deeper : ℕ → Taken (Option (ℕ × ℕ))
+    deeper x = also (x ∷ []) (pairs (n + 1) (p + 2) l)
 
     Rest : Type 0
-    Rest = (pairs (n + 1) (p + 2) l).found ≡ Are m q → Was (p + 2) l (pairs (n + 1) (p + 2) l).numbers (n + 1) m q
+    Rest = (pairs (n + 1) (p + 2) l).found ≡ Some (m, q) → Was (p + 2) l (pairs (n + 1) (p + 2) l).numbers (n + 1) m q
 
-    second : (t : Bool) → ltb 255 (pair_value b c) ≡ t → (cond t (taking [] Wrong) deeper).found ≡ Are m q → Rest
-        → Was p (b ∷ c ∷ l) (cond t (taking [] Wrong) deeper).numbers n m q
-    second true g f ih = let z : ◌≡◌ {A = ℕ} 0 1 = cc in absurd (omega arith)
-    second false g f ih =
+    second : (o : Option ℕ) → pair_value b c ≡ o → (option_map_or deeper o none_more).found ≡ Some (m, q) → Rest
+        → Was p (b ∷ c ∷ l) (option_map_or deeper o none_more).numbers n m q
+    second None g f ih = absurd (cc)
+    second (Some x) g f ih =
         let w = ih f in
-        let k : pair_value b c ≤ 255 = ltb-false 255 (pair_value b c) g in
-        let d = pair_bytes b c k in
+        let d = pair_bytes b c x g in
         record {
           rest = w.rest;
-          text = ap (λ (z : ℕ). z ∷ c ∷ l) d.0 ∙ ap (λ (z : ℕ). hex_digit (pair_value b c / 16) ∷ z ∷ l) d.1
-              ∙ ap (λ (z : List ℕ). hex_digit (pair_value b c / 16) ∷ hex_digit (pair_value b c % 16) ∷ z) w.text;
+          text = ap (λ (z : ℕ). z ∷ c ∷ l) d.high ∙ ap (λ (z : ℕ). hex_digit (x / 16) ∷ z ∷ l) d.low
+              ∙ ap (λ (z : List ℕ). hex_digit (x / 16) ∷ hex_digit (x % 16) ∷ z) w.text;
           place = omega (arith, w.place);
           count = omega (arith, w.count);
-          all = (omega arith, w.all);
+          all = (omega (arith, d.small), w.all);
         }
 
-    first : (t : Bool) → eqb b 10 ≡ t
-        → (cond t (taking [] (Are n (p + 1))) (cond (ltb 255 (pair_value b c)) (taking [] Wrong) deeper)).found ≡ Are m q → Rest
-        → Was p (b ∷ c ∷ l) (cond t (taking [] (Are n (p + 1))) (cond (ltb 255 (pair_value b c)) (taking [] Wrong) deeper)).numbers n m q
+    first : (t : Bool) → eqb b 10 ≡ t → (cond t (counted n (p + 1)) (option_map_or deeper (pair_value b c) none_more)).found ≡ Some (m, q) → Rest
+        → Was p (b ∷ c ∷ l) (cond t (counted n (p + 1)) (option_map_or deeper (pair_value b c) none_more)).numbers n m q
     first true g f ih =
-        let x : n ≡ m = cc in
-        let y : p + 1 ≡ q = cc in
+        let same = some_pair_parts n m (p + 1) q f in
+        let x : n ≡ m = same.0 in
+        let y : p + 1 ≡ q = same.1 in
         record { rest = c ∷ l; text = ap (λ (z : ℕ). z ∷ c ∷ l) (eqb-true b 10 g); place = omega arith; count = omega arith; all = tt }
-    first false g f ih = second (ltb 255 (pair_value b c)) refl f ih
+    first false g f ih = second (pair_value b c) refl f ih
 
 -- pairs that are read stand in the text, and say as many bytes as are told
 pub record Bytes-stand (text : List ℕ) (p : ℕ) (bytes : List ℕ) (n q : ℕ) : Type 0 where
@@ -237,7 +257,7 @@ pub record Bytes-stand (text : List ℕ) (p : ℕ) (bytes : List ℕ) (n q : ℕ
   pub count : n ≡ length bytes
   pub all : AllBelow 256 bytes
 
-pub pairs_stand : (text : List ℕ) (p n q : ℕ) → (pairs 0 p (drop p text)).found ≡ Are n q → Bytes-stand text p (pairs 0 p (drop p text)).numbers n q
+pub pairs_stand : (text : List ℕ) (p n q : ℕ) → (pairs 0 p (drop p text)).found ≡ Some (n, q) → Bytes-stand text p (pairs 0 p (drop p text)).numbers n q
 pairs_stand text p n q e =
     let w = pairs_was (drop p text) 0 p n q e in
     let bytes : List ℕ = (pairs 0 p (drop p text)).numbers in

@@ -5,7 +5,7 @@ use Prim.Native.Nat.{ℕ}
 use Rattle.text.specs.Stored.{Wrote, Taken, Took}
 
 -- a writer's next place, and what its slice holds then
-pub wrote_unique : {l a l₁ l₂ : List ℕ} {at r₁ r₂ : ℕ} → Wrote l at a r₁ l₁ → Wrote l at a r₂ l₂ → (r₁ ≡ r₂) × (l₁ ≡ l₂)
+pub wrote_unique : {A : Type 0} {l a l₁ l₂ : List A} {at r₁ r₂ : ℕ} → Wrote l at a r₁ l₁ → Wrote l at a r₂ l₂ → (r₁ ≡ r₂) × (l₁ ≡ l₂)
 wrote_unique x y = (x.next_is ∙ sym y.next_is, x.stored ∙ sym y.stored)
 
 -- a reader's finding, and what its slice holds then

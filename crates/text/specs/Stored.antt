@@ -11,10 +11,10 @@ largest_place = 18446744073709551615
 abbrev pub place_after : ℕ → ℕ → ℕ
 place_after at n = min (at + n) largest_place
 
--- a writer stored the numbers from place `at` on, those past the end left out, and answered the place after them
-pub record Wrote (before : List ℕ) (at : ℕ) (numbers : List ℕ) (next : ℕ) (after : List ℕ) : Type 0 where
-  pub next_is : next ≡ place_after at (length numbers)
-  pub stored : after ≡ sets before at numbers
+-- a writer stored the items from place `at` on, those past the end left out, and answered the place after them
+pub record Wrote {A : Type 0} (before : List A) (at : ℕ) (items : List A) (next : ℕ) (after : List A) : Type 0 where
+  pub next_is : next ≡ place_after at (length items)
+  pub stored : after ≡ sets before at items
 
 -- what a reader takes off a text: numbers, and what it found in the end
 pub record Taken (F : Type 0) : Type 0 where

@@ -1,80 +1,69 @@
 -- Nodes without parsing parts, and the arguments and receiving slots of calls. Assumes nothing.
-use mathlib.Core.Path.{◌≡◌, refl, sym, ap, ◌∙◌}
+use mathlib.Core.Path.{◌≡◌, sym, ap, ◌∙◌}
 use mathlib.Core.List.{List}
-use mathlib.Core.Bool.{Bool, true, false, cond, ◌&&◌}
+use mathlib.Core.Bool.{Bool, true, false}
 use mathlib.Core.Option.{Option, some}
-use Prim.Native.Nat.{ℕ, ◌+◌, ◌<◌}
+use Prim.Native.Nat.{ℕ, ◌+◌, ◌<◌, ◌≤◌}
 use native.Mathlib.Omega.{arith}
-use lib.Dec.{ltb, leb, eqb}
+use lib.Dec.{ltb, leb}
 use borrow.Author.Tests.{leb-true}
-use Rattle.laws.specs.Tests.{both_right}
-use Rattle.grammar.specs.declared.Operator.{Operator}
-use Rattle.grammar.specs.declared.Operator.TheVariants.{Calculate, Equal, Greater, And, Or}
-use Rattle.grammar.specs.Words.{node_word, nodes, node_for, inherited_count, returned_count, rule_word}
-use Rattle.grammar.specs.Tree.{Expr, bool, integer, text, slot, binary, negation, expr_at, expr_of, parsing_at, parsing_of, grammar_of, rule_at}
-use Rattle.grammar.specs.Types.{Env, provided, has, assign, operator_type, expr_type, type_of}
+use Rattle.std.specs.Prelude.{Result, IsOk}
+use Rattle.laws.specs.Tests.{both_left, both_right}
+use Rattle.grammar.specs.Words.{node_word, inherited_count, returned_count, rule_word}
+use Rattle.grammar.specs.Tree.{expr_at, expr_of, parsing_at, parsing_of, grammar_of, rule_at}
+use Rattle.grammar.specs.Types.{Env, provided, has, assign, expr_type, type_of}
 use Rattle.grammar.specs.Form.{is_type}
-use Rattle.grammar.proofs.Records.{rule_right}
+use Rattle.grammar.proofs.Records.{RuleRight, rule_right}
 use Rattle.grammar.proofs.Decode.{rule_tree}
-use Rattle.typing.specs.Checked.{CheckedNode, CheckedKind, CheckedPlaces, CheckedRule}
-use Rattle.typing.specs.Slots.{types_in}
+use Rattle.table.specs.declared.kinds.Kind.{Kind}
+use Rattle.table.specs.declared.kinds.Kind.TheVariants as K
+use Rattle.typing.specs.declared.value_type.NoType.{NoType}
+use Rattle.typing.specs.declared.value_type.ValueType.{ValueType}
+use Rattle.typing.specs.Checked.{CheckedNode, CheckedKind, CheckedRule}
+use Rattle.typing.specs.Types.{Decodes}
 use Rattle.typing.specs.Places.{arguments_typed, received_all}
 use Rattle.typing.specs.Walk.{has_parts}
 use Rattle.typing.proofs.Walks.{sound, holds, smaller, expr_is, parsing_is}
-use Rattle.typing.proofs.NodeKinds.{says, is}
-use Rattle.typing.proofs.Numbers.{slot_small}
+use Rattle.typing.specs.Expressions.{is_operator}
+use Rattle.typing.proofs.NodeKinds.{made, read, bools, plain}
+use Rattle.typing.proofs.Types.{is_type as is_declared}
+use Rattle.typing.proofs.Fours.{place}
 
--- ════ Types fit three bits ════
+-- ════ Types that a rule declares ════
 
-pub picked : (b : Bool) (t : ℕ) → (b ≡ true → t < 8) → cond b t 0 < 8
-picked true t h = h refl
-picked false t h = omega arith
-
-operator_small : (op : Operator) (s t : ℕ) → operator_type op s t < 8
-unfolding operator_type
-operator_small (Calculate a) s t = picked (eqb s 2 && eqb t 2) 2 (λ _. omega arith)
-operator_small Equal s t = picked (ltb 0 s && eqb s t) 1 (λ _. omega arith)
-operator_small Greater s t = picked (eqb s 2 && eqb t 2) 1 (λ _. omega arith)
-operator_small And s t = picked (eqb s 1 && eqb t 1) 1 (λ _. omega arith)
-operator_small Or s t = picked (eqb s 1 && eqb t 1) 1 (λ _. omega arith)
-
-pub type_small : (slots : ℕ) (e : Expr) → expr_type (types_in slots) e < 8
-unfolding expr_type
-type_small slots (bool k b) = omega arith
-type_small slots (integer k z) = omega arith
-type_small slots (text k start len) = omega arith
-type_small slots (slot k s) = slot_small slots s
-type_small slots (binary k op e f) = operator_small op (expr_type (types_in slots) e) (expr_type (types_in slots) f)
-type_small slots (negation k e) = picked (eqb (expr_type (types_in slots) e) 1) 1 (λ _. omega arith)
-
-declared_small : (w : ℕ) → is_type w ≡ true → w < 8
-declared_small w e = let h = leb-true w 3 (both_right (leb 1 w) (leb w 3) e) in omega arith
+module _ {w n : ℕ} (r : Result ValueType NoType) (d : Decodes n r) (e : n ≡ w) where
+  declared : is_type w ≡ true → IsOk r
+  declared right =
+      let low = leb-true 1 w (both_left (leb 1 w) (leb w 3) right) in
+      let high = leb-true w 3 (both_right (leb 1 w) (leb w 3) right) in
+      is_declared r d (omega arith) (omega arith)
 
 module _ {words : List ℕ} {r : ℕ} (rule : CheckedRule words r) where
-  pub returned_small : (i : ℕ) → i < returned_count words r → rule_word words r (11 + i) < 8
-  returned_small i h =
-      declared_small (rule_word words r (11 + i)) ((rule_right words rule.table.literals (sound rule.table) r rule.there).returned_type_lem i h)
+  right : RuleRight words r
+  right = rule_right words rule.table.literals (sound rule.table) r rule.there
 
-  pub inherited_small : (i : ℕ) → i < inherited_count words r → rule_word words r (2 + i) < 8
-  inherited_small i h =
-      declared_small (rule_word words r (2 + i)) ((rule_right words rule.table.literals (sound rule.table) r rule.there).inherited_type_lem i h)
+  pub returned_few : returned_count words r ≤ 4
+  returned_few = right.returned_most
+
+  pub inherited_few : inherited_count words r ≤ 4
+  inherited_few = right.inherited_most
+
+  module _ {n : ℕ} (o : Result ValueType NoType) (d : Decodes n o) (i : ℕ) where
+    pub returned_declared : n ≡ rule_word words r (11 + i) → i < returned_count words r → IsOk o
+    returned_declared e h = declared o d e (right.returned_type_lem i h)
+
+    pub inherited_declared : n ≡ rule_word words r (2 + i) → i < inherited_count words r → IsOk o
+    inherited_declared e h = declared o d e (right.inherited_type_lem i h)
 
 -- ════ Expressions that are no operators ════
 
-abbrev type_of_kind : (words : List ℕ) (k : ℕ) → Env → (kind : ℕ) → ℕ
-type_of_kind words k env kind =
-    let field : ℕ → ℕ = node_word words k in
-    expr_type env (expr_of (expr_at words) k (node_for kind (field 1) (field 2) (field 3) (field 4) (field 5) (field 6) (field 7) (field 8) (field 9)))
-
-module _ {words : List ℕ} {room k kind : ℕ} (node : CheckedKind words room k kind) (env : Env) where
-  pub no_operator : kind < 17 → 1 ≡ expr_type env (expr_at words k)
-  no_operator h =
-      let e = node.is in
-      (says words k).bools (omega arith) env (expr_at words) ∙ ap (expr_type env) (sym (expr_is node.node refl))
+module _ {words : List ℕ} {room k : ℕ} {kind : Kind} (node : CheckedKind words room k kind) (env : Env) where
+  pub no_operator : is_operator kind ≡ false → (kind ≡ K.Integer → ⊥) → (kind ≡ K.Text → ⊥) → (kind ≡ K.Slot → ⊥) → 1 ≡ expr_type env (expr_at words k)
+  no_operator e p q r = bools words k kind e p q r env (expr_at words) ∙ ap (expr_type env) (sym (expr_is node.node (read words k node.is)))
 
   -- the type of what the kind makes of the fields
-  pub type_by : {made : ℕ} → kind ≡ made → type_of_kind words k env made ≡ expr_type env (expr_at words k)
-  type_by e = sym (ap (expr_type env) (expr_is node.node (is words k (sym node.is ∙ e))))
+  pub type_by : {known : Kind} → kind ≡ known → expr_type env (expr_of (expr_at words) k (made words k known)) ≡ expr_type env (expr_at words k)
+  type_by e = sym (ap (expr_type env) (expr_is node.node (read words k (sym e ∙ node.is))))
 
 -- ════ Parsing nodes without parsing parts ════
 
@@ -82,45 +71,41 @@ abbrev leaves_of : List ℕ → Env → ℕ → Option Env
 leaves_of words env k = type_of (grammar_of words) env (parsing_at words k)
 
 module _ {words : List ℕ} {room k : ℕ} (env : Env) where
-  pub plain_leaves : {kind : ℕ} → CheckedKind words room k kind → has_parts kind ≡ false → (kind ≡ 7 → ⊥) → (kind ≡ 9 → ⊥) → (kind ≡ 10 → ⊥) → some env ≡ leaves_of words env k
-  plain_leaves node =
-      rw node.is (λ a b c d. (says words k).plain a b c d env ∙ ap (type_of (grammar_of words) env) (sym (parsing_is node.node refl)))
+  pub plain_leaves : {kind : Kind} → CheckedKind words room k kind → has_parts kind ≡ false → (kind ≡ K.Call → ⊥) → (kind ≡ K.Update → ⊥) → (kind ≡ K.Constraint → ⊥)
+      → some env ≡ leaves_of words env k
+  plain_leaves {kind} node p q r s = plain words k kind p q r s env ∙ ap (type_of (grammar_of words) env) (sym (parsing_is node.node (read words k node.is)))
 
-  module _ (node : CheckedKind words room k 9) where
+  module _ (node : CheckedKind words room k K.Update) where
     pub update_part : CheckedNode words room (node_word words k 2)
-    unfolding node_for nodes
-    update_part = smaller node.node (holds node.node (is words k (sym node.is))).1.below
+    update_part = smaller node.node (holds node.node (read words k node.is)).1.below
 
-    pub update_leaves : provided (ltb 0 (expr_type env (expr_at words (node_word words k 2)))) (assign env (node_word words k 1) (expr_type env (expr_at words (node_word words k 2)))) ≡ leaves_of words env k
-    unfolding type_of parsing_of node_for nodes
-    update_leaves = sym (ap (type_of (grammar_of words) env) (parsing_is node.node (is words k (sym node.is))))
+    pub update_leaves : {a t : ℕ} → a ≡ node_word words k 2 → t ≡ expr_type env (expr_at words a) → provided (ltb 0 t) (assign env (node_word words k 1) t) ≡ leaves_of words env k
+    unfolding type_of parsing_of
+    update_leaves p e = rw (e, p) (sym (ap (type_of (grammar_of words) env) (parsing_is node.node (read words k node.is))))
 
-  module _ (node : CheckedKind words room k 10) where
+  module _ (node : CheckedKind words room k K.Constraint) where
     pub constraint_part : CheckedNode words room (node_word words k 1)
-    unfolding node_for nodes
-    constraint_part = smaller node.node (holds node.node (is words k (sym node.is))).below
+    constraint_part = smaller node.node (holds node.node (read words k node.is)).below
 
-    pub constraint_leaves : provided (eqb (expr_type env (expr_at words (node_word words k 1))) 1) (some env) ≡ leaves_of words env k
-    unfolding type_of parsing_of has node_for nodes
-    constraint_leaves = sym (ap (type_of (grammar_of words) env) (parsing_is node.node (is words k (sym node.is))))
+    pub constraint_leaves : {a : ℕ} {b : Bool} → a ≡ node_word words k 1 → has env (expr_at words a) 1 ≡ b → provided b (some env) ≡ leaves_of words env k
+    unfolding type_of parsing_of
+    constraint_leaves p e = sym (ap (type_of (grammar_of words) env) (parsing_is node.node (read words k node.is)) ∙ rw (← p, e))
 
-  module _ (node : CheckedKind words room k 7) {r : ℕ} (is_rule : r ≡ node_word words k 1) where
+  module _ (node : CheckedKind words room k K.Call) {r : ℕ} (is_rule : r ≡ node_word words k 1) where
     pub callee : CheckedRule words r
-    unfolding node_for nodes
-    callee = let h = (holds node.node (is words k (sym node.is))).callee in record { table = node.node.table; there = omega arith }
+    callee = let h = (holds node.node (read words k node.is)).callee in record { table = node.node.table; there = omega arith }
 
-    pub call_arguments : CheckedPlaces words room (inherited_count words r) (node_word words k 2) (node_word words k 3) (node_word words k 4) (node_word words k 5)
-    unfolding node_for nodes
-    call_arguments =
-        let right = holds node.node (is words k (sym node.is)) in
-        let h = node.node.there in
-        let f = node.node.fits in
-        rw is_rule (record { table = node.node.table; there = λ i l. let p = (right.argument i l).below in (omega arith, omega arith) })
+    pub call_argument : {a i : ℕ} → i < inherited_count words r → a ≡ node_word words k (2 + i) → CheckedNode words room a
+    call_argument {i = i} l e =
+        let few = inherited_few callee in
+        let below : node_word words k (2 + i) < k =
+        rw (← place (λ j. node_word words k (2 + j)) i (omega arith)) ((holds node.node (read words k node.is)).argument i (rw is_rule at l)).below in
+        smaller node.node (rw e below)
 
     called : leaves_of words env k ≡ provided (arguments_typed words env k r) (received_all words env k r)
-    unfolding type_of parsing_of node_for nodes arguments_typed received_all rule_at
+    unfolding type_of parsing_of arguments_typed received_all rule_at
     called =
-        ap (type_of (grammar_of words) env) (parsing_is node.node (is words k (sym node.is)))
+        ap (type_of (grammar_of words) env) (parsing_is node.node (read words k node.is))
         ∙ rw (← is_rule, rule_tree words r callee.there)
 
     pub call_leaves : {b : Bool} → arguments_typed words env k r ≡ b → provided b (received_all words env k r) ≡ leaves_of words env k

@@ -1,6 +1,7 @@
 pub mod Fours
 pub mod Promise
 pub mod Walks
+pub mod Types
 pub mod Numbers
 pub mod Piles
 pub mod NodeKinds

@@ -1,8 +1,7 @@
 -- What a checked table gives to the two walks over its nodes: a node's tree is made of its parts' trees, and parts have smaller numbers.
 -- Assumes nothing.
 use mathlib.Core.Path.{◌≡◌, ap, ◌∙◌}
-use mathlib.Core.List.{List, [], ◌∷◌}
-use lib.ListN.{get_or}
+use mathlib.Core.List.{List}
 use Prim.Native.Nat.{ℕ, ◌+◌, ◌<◌}
 use native.Mathlib.Omega.{arith}
 use Rattle.grammar.specs.declared.Node.{Node}
@@ -11,20 +10,13 @@ use Rattle.grammar.specs.Tree.{expr_at, expr_of, parsing_at, parsing_of}
 use Rattle.grammar.proofs.Facts.{SoundTable, Sizes, sizes, sound_of_form}
 use Rattle.grammar.proofs.Nodes.{NodeRight, node_holds}
 use Rattle.grammar.proofs.Decode.{expr_tree, parsing_tree}
-use Rattle.typing.specs.Checked.{Checked, CheckedNode, Placed, CheckedPlace, CheckedPlaces}
+use Rattle.typing.specs.Checked.{Checked, CheckedNode, Placed}
 
 pub sound : {words : List ℕ} (table : Checked words) → SoundTable words table.literals
 sound {words} table = sound_of_form words table.literals table.passed
 
 pub sized : {words : List ℕ} (table : Checked words) → Sizes words table.literals
 sized {words} table = sizes words table.literals (sound table)
-
--- a place in use names a node of the table
-pub place : {words : List ℕ} {room n i k : ℕ} → CheckedPlace words room n i k → i < n → CheckedNode words room k
-place p h = record { table = p.table; there = (p.there h).0; fits = (p.there h).1 }
-
-pub nth : {words : List ℕ} {room n a b c d : ℕ} → CheckedPlaces words room n a b c d → (i : ℕ) → CheckedPlace words room n i (get_or (a ∷ b ∷ c ∷ d ∷ []) i 0)
-nth p i = record { table = p.table; there = p.there i }
 
 -- a node that is due is one of the table's, and so are its parts, which have smaller numbers
 module _ {words : List ℕ} {room height k : ℕ} (p : Placed words room height k) where
@@ -52,6 +44,6 @@ module _ {words : List ℕ} {room k : ℕ} (node : CheckedNode words room k) whe
       parsing_tree words node.table.literals (sound node.table) k node.there
       ∙ ap (parsing_of (inherited_count words) (returned_count words) (expr_at words) (parsing_at words) k) e
 
--- places in a pile of the same length
-pub longer : {words : List ℕ} {room later n a b c d : ℕ} → later ≡ room → CheckedPlaces words room n a b c d → CheckedPlaces words later n a b c d
-longer e p = record { table = p.table; there = λ i l. ((p.there i l).0, (let h = (p.there i l).1 in omega arith)) }
+-- a node with a pile of the same length
+pub longer : {words : List ℕ} {room later k : ℕ} → later ≡ room → CheckedNode words room k → CheckedNode words later k
+longer e node = rw e node

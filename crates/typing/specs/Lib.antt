@@ -1,4 +1,5 @@
 pub mod Checked
+pub mod Types
 pub mod Slots
 pub mod Expressions
 pub mod Walk

@@ -1,214 +1,186 @@
-// The type of an expression: 1 Bool, 2 Integer, 3 Text; 0 where it has none. A walk without recursion: operators at work stand in a pile that the caller lends.
-ghost use Rattle.std.specs.Prelude.{◌≡◌, true, false, map, suc, ◌<◌, length};
+// The type of an expression, or none. A walk without recursion: operators at work stand in a pile that the caller lends.
+ghost use Rattle.std.specs.Prelude.{◌≡◌, false, Some, suc, ◌<◌, length};
 ghost use Rattle.grammar.specs.declared.Operator.TheVariants.{Equal};
-ghost use Rattle.grammar.specs.Tree.{expr_at, four};
-ghost use Rattle.grammar.specs.Types.{expr_type, has, have_all, if_both, operator_type, negation_type};
-ghost use Rattle.typing.specs.Checked.{CheckedKind, CheckedNode, CheckedPlace, CheckedPlaces};
-ghost use Rattle.typing.specs.Places.{place_typed};
+ghost use Rattle.grammar.specs.Tree.{expr_at};
+ghost use Rattle.grammar.specs.Types.{expr_type, has, if_both, operator_type, negation_type};
+ghost use Rattle.typing.specs.Checked.{CheckedKind, CheckedNode};
 ghost use Rattle.typing.specs.Slots.{types_in};
-ghost use Rattle.typing.specs.Expressions.{at_work, JudgedOn, Judges, kind_type, node_due, type_found};
+ghost use Rattle.typing.specs.Types.{number, number_if_any};
+ghost use Rattle.typing.specs.Expressions.{at_work, is_operator, JudgedOn, Judges, kind_type, node_due, type_found};
 
-use crate::slots::slot_type;
+use crate::slots::Slots;
+use crate::value_type::ValueType;
+use table::kinds::Kind;
 use table::records::{kind_at, node_word};
 
 // Both operands have the type wanted, or there is none.
-fn both(wanted: u16, given: u16, s: u16, t: u16) -> u16
-    ensures { result ≡ if_both wanted given s t }
+fn both(wanted: ValueType, given: ValueType, s: ValueType, t: ValueType) -> Option<ValueType>
+    ensures { number_if_any result ≡ if_both (number wanted) (number given) (number s) (number t) }
 {
-    if s != wanted {
-        return 0;
+    if s == wanted && t == wanted {
+        Some(given)
+    } else {
+        None
     }
-    if t == wanted { given } else { 0 }
 }
 
 // "equal takes two of one type"
-fn equal_type(s: u16, t: u16) -> u16
-    ensures { result ≡ operator_type Equal s t }
+#[tactic(auto, unfolding(grammar::specs::Types::operator_type))]
+fn equal_type(s: ValueType, t: ValueType) -> Option<ValueType>
+    ensures { number_if_any result ≡ operator_type Equal (number s) (number t) }
 {
-    if s == 0 {
-        return 0;
-    }
-    if s == t { 1 } else { 0 }
+    if s == t { Some(ValueType::Bool) } else { None }
 }
 
 // "not take Bools"
-fn negation_type(t: u16) -> u16
-    ensures { result ≡ negation_type t }
+fn negation_type(t: ValueType) -> Option<ValueType>
+    ensures { number_if_any result ≡ negation_type (number t) }
 {
-    if t == 1 { 1 } else { 0 }
+    if t == ValueType::Bool { Some(t) } else { None }
 }
 
 // "Add, subtract, multiply, divide take Integers; greater takes Integers, gives Bool; equal takes two of one type; and, or, not take Bools."
-fn operator_type(kind: u64, s: u16, t: u16) -> u16
-    ensures { result ≡ kind_type kind s t }
-{
-    if kind < 24 {
-        return both(2, 2, s, t);
-    }
-    if kind == 24 {
-        return equal_type(s, t);
-    }
-    if kind == 25 {
-        return both(2, 1, s, t);
-    }
-    both(1, 1, s, t)
-}
-
-// The type of node k, which is no operator.
-fn leaf_type(words: &[u16], slots: u64, kind: u16, k: u16) -> u16
-    requires { CheckedKind words.now (suc k) k kind × (kind < 20) }
-    ensures { result ≡ expr_type (types_in slots) (expr_at words.now k) }
+fn operator_type(kind: Kind, s: ValueType, t: ValueType) -> Option<ValueType>
+    ensures { number_if_any result ≡ kind_type kind (number s) (number t) }
 {
     match kind {
-        17 => 2,
-        18 => 3,
-        19 => slot_type(slots, node_word(words, k, 1)),
-        _ => 1,
+        Kind::Equal => equal_type(s, t),
+        Kind::Greater => both(ValueType::Integer, ValueType::Bool, s, t),
+        Kind::And | Kind::Or => both(ValueType::Bool, ValueType::Bool, s, t),
+        _ => both(ValueType::Integer, ValueType::Integer, s, t),
     }
 }
 
-// An operator at work as one number: its kind and its right operand, while the left one is judged; then its kind and 32, and the left one's type.
+// The operators.
+#[tactic(auto, unfolding(crate::specs::Expressions::is_operator))]
+fn is_operator(kind: Kind) -> bool
+    ensures { result ≡ is_operator kind }
+{
+    match kind {
+        Kind::Add | Kind::Subtract | Kind::Multiply | Kind::Divide => true,
+        Kind::Equal | Kind::Greater | Kind::And | Kind::Or | Kind::Negation => true,
+        _ => false,
+    }
+}
+
+// The type of node k, which is no operator. A node that is no expression stands for a Bool, and no table that passes the check has one here.
+fn leaf_type(words: &[u16], slots: Slots, kind: Kind, k: u16) -> Option<ValueType>
+    requires { CheckedKind words.now (suc k) k kind × (is_operator kind ≡ false) }
+    ensures { number_if_any result ≡ expr_type (types_in slots) (expr_at words.now k) }
+{
+    match kind {
+        Kind::Integer => Some(ValueType::Integer),
+        Kind::Text => Some(ValueType::Text),
+        Kind::Slot => slots.type_of(node_word(words, k, 1)),
+        _ => Some(ValueType::Bool),
+    }
+}
+
+// An operator at work as one number: its kind's number and its right operand, while the left one is judged; then that number and 32, and the left one's type.
+// (A number and no enum: it stands in the pile that both walks share, whose 1,024 places are 8 KB of a stack that is to stay under 16 KB.)
 fn at_work(code: u64, number: u16) -> u64
     requires { code < 65536 }
     ensures { result ≡ at_work code number }
 {
-    code * 65536 + number as u64
+    code * 65536 + u64::from(number)
 }
 
-// A walk over an expression: whether a node is due, that node or else the type that was found, and how many operators are at work.
+// What a walk over an expression has come to. (`parsing` has its own, whose node comes with slots: one generic type for both would name their parts less plainly.)
+#[derive(Clone, Copy)]
+pub enum Step {
+    // A node is due.
+    Due(u16),
+    // This type was found, or none.
+    Found(Option<ValueType>),
+}
+
+// The walk: its step, and how many operators are at work.
 #[derive(Clone, Copy)]
 pub struct Judging {
-    pub due: bool,
-    pub at: u16,
+    pub step: Step,
     pub top: usize,
 }
 
-// Node k is due.
-fn due(k: u16, top: usize) -> Judging
-    ensures { result ≡ node_due k top }
+// Node k is due: an operator goes to work, and its first operand is due.
+fn judge(words: &[u16], pile: &mut [u64], slots: Slots, k: u16, top: usize) -> Judging
+    requires { Judges words.now pile.old (node_due k top) }
+    ensures { JudgedOn words.now slots pile.old (node_due k top) pile.new result }
 {
-    Judging {
-        due: true,
-        at: k,
-        top: top,
-    }
-}
-
-// The type t was found.
-fn found(t: u16, top: usize) -> Judging
-    ensures { result ≡ type_found t top }
-{
-    Judging {
-        due: false,
-        at: t,
-        top: top,
-    }
-}
-
-// A node is due: an operator goes to work, and its first operand is due. From 20 on all kinds are operators: no table that passes the check has one past 28.
-fn judge(words: &[u16], pile: &mut [u64], slots: u64, w: Judging) -> Judging
-    requires { Judges words.now pile.old w × (w.due ≡ true) }
-    ensures { JudgedOn words.now slots pile.old w pile.new result }
-{
-    let k = w.at;
-    let top = w.top;
-    let kind = kind_at(words, k);
-    if kind < 20 {
-        return found(leaf_type(words, slots, kind, k), top);
+    let number = kind_at(words, k);
+    let kind = Kind::from(number);
+    if !is_operator(kind) {
+        let step = Step::Found(leaf_type(words, slots, kind, k));
+        return Judging { step, top };
     }
     let first = node_word(words, k, 1);
     let second = node_word(words, k, 2);
-    pile[top] = at_work(kind as u64, second);
-    due(first, top + 1)
+    pile[top] = at_work(u64::from(number), second);
+    Judging {
+        step: Step::Due(first),
+        top: top + 1,
+    }
 }
 
 // A type was found, and goes to the topmost operator at work. (`words` and `slots` are there for the contract alone.)
-fn apply(words: &[u16], pile: &mut [u64], slots: u64, w: Judging) -> Judging
-    requires { Judges words.now pile.old w × (w.due ≡ false) × (0 < w.top) }
-    ensures { JudgedOn words.now slots pile.old w pile.new result }
+fn apply(words: &[u16], pile: &mut [u64], slots: Slots, t: ValueType, top: usize) -> Judging
+    requires { Judges words.now pile.old (type_found (Some t) top) × (0 < top) }
+    ensures { JudgedOn words.now slots pile.old (type_found (Some t) top) pile.new result }
 {
-    let t = w.at;
-    let top = w.top;
     let last = top - 1;
     let f = pile[last];
     let code = f / 65536;
     let number = (f % 65536) as u16;
-    if code < 28 {
-        pile[last] = at_work(code + 32, t);
-        return due(number, top);
+    let kind = Kind::from((code % 32) as u16);
+    if kind == Kind::Negation {
+        let step = Step::Found(negation_type(t));
+        return Judging { step, top: last };
     }
-    if code == 28 {
-        return found(negation_type(t), last);
+    if code < 32 {
+        pile[last] = at_work(code + 32, u16::from(t));
+        let step = Step::Due(number);
+        return Judging { step, top };
     }
-    found(operator_type(code - 32, number, t), last)
+    let left = ValueType::try_from(number).unwrap();
+    let step = Step::Found(operator_type(kind, left, t));
+    Judging { step, top: last }
 }
 
-// The type of node k. A node below 20 that is no expression stands for a Bool, and no table that passes the check has one here.
-pub(crate) fn expression_type(words: &[u16], pile: &mut [u64], slots: u64, k: u16) -> u16
+// The type of node k. An operand without a type leaves the whole expression without one.
+pub(crate) fn expression_type(
+    words: &[u16],
+    pile: &mut [u64],
+    slots: Slots,
+    k: u16,
+) -> Option<ValueType>
     requires { CheckedNode words.now (length pile.old) k }
-    ensures { result ≡ expr_type (types_in slots) (expr_at words.now k) }
+    ensures { number_if_any result ≡ expr_type (types_in slots) (expr_at words.now k) }
 {
-    let mut w = due(k, 0);
+    let mut walk = Judging {
+        step: Step::Due(k),
+        top: 0,
+    };
     loop {
-        if w.due {
-            w = judge(words, pile, slots, w);
-        } else {
-            if w.top == 0 {
-                return w.at;
+        let top = walk.top;
+        match walk.step {
+            Step::Due(node) => walk = judge(words, pile, slots, node, top),
+            Step::Found(found) => {
+                if top == 0 {
+                    return found;
+                }
+                walk = apply(words, pile, slots, found?, top);
             }
-            w = apply(words, pile, slots, w);
         }
     }
 }
 
-// Has node k the type t? None has the type 0.
-pub(crate) fn has_type(words: &[u16], pile: &mut [u64], slots: u64, k: u16, t: u16) -> bool
+// Has node k the type t?
+#[tactic(auto, unfolding(grammar::specs::Types::has))]
+pub(crate) fn has_type(words: &[u16], pile: &mut [u64], slots: Slots, k: u16, t: ValueType) -> bool
     requires { CheckedNode words.now (length pile.old) k }
-    ensures { result ≡ has (types_in slots) (expr_at words.now k) t }
+    ensures { result ≡ has (types_in slots) (expr_at words.now k) (number t) }
 {
-    if t == 0 {
-        return false;
+    match expression_type(words, pile, slots, k) {
+        Some(found) => found == t,
+        None => false,
     }
-    expression_type(words, pile, slots, k) == t
-}
-
-// Place i, of which n are in use: if it is one of them, node e has the type t.
-fn place_typed(words: &[u16], pile: &mut [u64], slots: u64, n: u16, i: u16, e: u16, t: u16) -> bool
-    requires { CheckedPlace words.now (length pile.old) n i e }
-    ensures { result ≡ place_typed n i (types_in slots) (expr_at words.now e) t }
-{
-    if n <= i {
-        return true;
-    }
-    has_type(words, pile, slots, e, t)
-}
-
-// Four places, of which n are in use: those nodes have their types.
-pub(crate) fn places_typed(
-    words: &[u16],
-    pile: &mut [u64],
-    slots: u64,
-    n: u16,
-    a: u16,
-    b: u16,
-    c: u16,
-    d: u16,
-    t: u16,
-    u: u16,
-    v: u16,
-    w: u16,
-) -> bool
-    requires { CheckedPlaces words.now (length pile.old) n a b c d }
-    ensures { result ≡ have_all (types_in slots) (map (expr_at words.now) (four n a b c d)) (four n t u v w) }
-{
-    if !place_typed(words, pile, slots, n, 0, a, t) {
-        return false;
-    }
-    if !place_typed(words, pile, slots, n, 1, b, u) {
-        return false;
-    }
-    if !place_typed(words, pile, slots, n, 2, c, v) {
-        return false;
-    }
-    place_typed(words, pile, slots, n, 3, d, w)
 }

@@ -1,59 +1,48 @@
 // The type rules for whole rules.
 ghost use Rattle.std.specs.Prelude.{◌≡◌, ◌+◌, ◌<◌, ◌≤◌, length};
-ghost use Rattle.grammar.specs.Words.{inherited_count, node_count, rule_word};
+ghost use Rattle.grammar.specs.Words.{node_count};
 ghost use Rattle.grammar.specs.Tree.{grammar_of, rule_of};
 ghost use Rattle.grammar.specs.Types.{start_env, typed_rule};
 ghost use Rattle.grammar.specs.Answer.{type_rules};
 ghost use Rattle.typing.specs.Checked.{Checked, CheckedRule};
-ghost use Rattle.typing.specs.Places.{inherited_at, inherited_types, returned_typed};
-ghost use Rattle.typing.specs.Slots.{broken, types_in};
+ghost use Rattle.typing.specs.Places.{inherited_types, returned_typed};
+ghost use Rattle.typing.specs.Slots.{types_in};
 
-use crate::expressions::places_typed;
+use crate::expressions::has_type;
 use crate::parsing::leaves;
-use crate::slots::BROKEN;
-use grammar::Verdict;
+use crate::slots::Slots;
+use crate::value_type::ValueType;
+use grammar::Refusal;
 use table::records::{
     body, inherited_count, inherited_type, returned_count, returned_node, returned_type, rule_count,
 };
 
-// The type of slot i as rule r starts: inherited, or unset.
-fn inherited_slot(words: &[u16], r: u16, i: u16) -> u16
-    ensures { result ≡ inherited_at (inherited_count words.now r) i (rule_word words.now r (2 + i)) }
-{
-    if i < inherited_count(words, r) {
-        inherited_type(words, r, i)
-    } else {
-        0
-    }
-}
-
 // "A rule starts with its inherited slots set, others unset."
-fn start_slots(words: &[u16], r: u16) -> u64
+fn start_slots(words: &[u16], r: u16) -> Slots
     requires { CheckedRule words.now r }
-    ensures { (result < broken) × (types_in result ≡ start_env (inherited_types words.now r)) }
+    ensures { types_in result ≡ start_env (inherited_types words.now r) }
 {
-    let a = inherited_slot(words, r, 0);
-    let b = inherited_slot(words, r, 1);
-    let c = inherited_slot(words, r, 2);
-    let d = inherited_slot(words, r, 3);
-    a as u64 + 8 * (b as u64 + 8 * (c as u64 + 8 * d as u64))
+    let mut slots = Slots::unset();
+    for i in 0..inherited_count(words, r) {
+        let t = ValueType::try_from(inherited_type(words, r, i)).unwrap();
+        slots = slots.with(i, t);
+    }
+    slots
 }
 
 // "after the body each returned node has its declared type"
-fn returned_typed(words: &[u16], pile: &mut [u64], slots: u64, r: u16) -> bool
+fn returned_typed(words: &[u16], pile: &mut [u64], slots: Slots, r: u16) -> bool
     requires { CheckedRule words.now r × (node_count words.now ≤ length pile.old) }
     ensures { result ≡ returned_typed words.now (types_in slots) r }
 {
-    let n = returned_count(words, r);
-    let a = returned_node(words, r, 0);
-    let b = returned_node(words, r, 1);
-    let c = returned_node(words, r, 2);
-    let d = returned_node(words, r, 3);
-    let t = returned_type(words, r, 0);
-    let u = returned_type(words, r, 1);
-    let v = returned_type(words, r, 2);
-    let w = returned_type(words, r, 3);
-    places_typed(words, pile, slots, n, a, b, c, d, t, u, v, w)
+    for i in 0..returned_count(words, r) {
+        let node = returned_node(words, r, i);
+        let t = ValueType::try_from(returned_type(words, r, i)).unwrap();
+        if !has_type(words, pile, slots, node, t) {
+            return false;
+        }
+    }
+    true
 }
 
 // Rule r keeps the type rules.
@@ -63,31 +52,27 @@ fn rule_typed(words: &[u16], pile: &mut [u64], r: u16) -> bool
 {
     let start = start_slots(words, r);
     let node = body(words, r);
-    let left = leaves(words, pile, start, node);
-    if BROKEN <= left {
-        return false;
+    match leaves(words, pile, start, node) {
+        Some(left) => returned_typed(words, pile, left, r),
+        None => false,
     }
-    returned_typed(words, pile, left, r)
 }
 
 // "a rule fails the type rules": "smallest such rule"
-fn first_untyped(words: &[u16], pile: &mut [u64]) -> Verdict
+fn first_untyped(words: &[u16], pile: &mut [u64]) -> Result<(), Refusal>
     requires { Checked words.now × (node_count words.now ≤ length pile.old) }
     ensures { result ≡ type_rules words.now }
 {
-    let rules = rule_count(words);
-    let mut r: u16 = 0;
-    while r < rules {
+    for r in 0..rule_count(words) {
         if !rule_typed(words, pile, r) {
-            return Verdict::Untyped(r);
+            return Err(Refusal::Untyped(r));
         }
-        r += 1;
     }
-    Verdict::Passed
+    Ok(())
 }
 
 // The pile of all walks is made once: 1,024 places, as many as a table may have nodes.
-pub(crate) fn typed_rules(words: &[u16]) -> Verdict
+pub(crate) fn typed_rules(words: &[u16]) -> Result<(), Refusal>
     requires { Checked words.now }
     ensures { result ≡ type_rules words.now }
 {

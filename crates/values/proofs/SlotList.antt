@@ -1,9 +1,10 @@
 -- Slots as values and as words: reading a slot is reading the list of values, and writing one is setting it there. Assumes nothing.
-use mathlib.Core.Path.{◌≡◌, refl, ap}
+use mathlib.Core.Path.{◌≡◌, refl, sym, ap, ◌∙◌}
 use mathlib.Core.List.{List, [], ◌∷◌}
-use Prim.Native.Nat.{ℕ, zero, suc, ◌+◌, ◌*◌, ◌≤◌, ◌<◌}
+use Prim.Native.Nat.{ℕ, zero, suc, ◌+◌, ◌-◌, ◌*◌, ◌≤◌, ◌<◌}
 use native.Mathlib.Omega.{arith}
-use lib.ListN.{get_or, set, length, take}
+use lib.ListN.{get_or, set, length, take, drop}
+use Rattle.std.proofs.lemmas.List.{get_or-take, get_or-drop}
 use Rattle.grammar.specs.declared.Value.{Value}
 use Rattle.grammar.specs.declared.Value.TheVariants as Val
 use Rattle.values.specs.Slots.{value_of, InRange, slots_of, slot_at, with_slot}
@@ -19,6 +20,16 @@ slot_read (a ∷ b ∷ words) (suc s) h =
     let e : 2 * suc s ≡ suc (suc (2 * s)) = omega arith in
     let f : suc (suc (2 * s)) + 1 ≡ suc (suc (2 * s + 1)) = omega arith in
     rw (e, f) (slot_read words s (omega arith))
+
+-- and what the two words of a part stand for, where the part is those words
+pub slot_cut : (words : List ℕ) (s : ℕ) {part : List ℕ} → 2 * s + 2 ≤ length words → part ≡ take (2 * s + 2 - 2 * s) (drop (2 * s) words)
+    → value_of (get_or part 0 0) (get_or part 1 0) ≡ slot_at words s
+slot_cut words s h e =
+    let k : 2 * s + 2 - 2 * s ≡ 2 = omega arith in
+    let z : 2 * s + 0 ≡ 2 * s = omega arith in
+    let a = rw z at (get_or-take 2 (drop (2 * s) words) 0 0 (omega arith) ∙ get_or-drop (2 * s) words 0 0) in
+    let b = get_or-take 2 (drop (2 * s) words) 1 0 (omega arith) ∙ get_or-drop (2 * s) words 1 0 in
+    rw (e, k, a, b) (sym (slot_read words s (omega arith)))
 
 pub slot_past : (words : List ℕ) (s : ℕ) → length words ≤ 2 * s + 1 → slot_at words s ≡ Val.Absent
 unfolding slots_of

@@ -2,6 +2,7 @@
 ghost use Rattle.std.specs.Prelude.{◌≡◌, set};
 ghost use Rattle.values.specs.Slots.{tag_of, payload_of, text_of, value_of, slot_at, with_slot};
 
+use crate::words::{integer_of, word_of};
 use grammar::{Span, Value};
 
 pub fn tag_of(value: Value) -> u32
@@ -20,9 +21,9 @@ pub fn payload_of(value: Value) -> u32
 {
     match value {
         Value::Absent => 0,
-        Value::Bool(b) => b as u32,
-        Value::Integer(z) => super::words::word_of(z),
-        Value::Text(s) => s.start as u32 * 65536 + s.length as u32,
+        Value::Bool(b) => u32::from(b),
+        Value::Integer(z) => word_of(z),
+        Value::Text(s) => u32::from(s.start) * 65536 + u32::from(s.length),
     }
 }
 
@@ -30,7 +31,7 @@ fn text_of(literal: bool, payload: u32) -> Value
     ensures { result ≡ text_of literal payload }
 {
     Value::Text(Span {
-        literal: literal,
+        literal,
         start: (payload / 65536) as u16,
         length: (payload % 65536) as u16,
     })
@@ -41,7 +42,7 @@ pub fn value_of(tag: u32, payload: u32) -> Value
 {
     match tag {
         1 => Value::Bool(payload == 1),
-        2 => Value::Integer(super::words::integer_of(payload)),
+        2 => Value::Integer(integer_of(payload)),
         3 => text_of(false, payload),
         4 => text_of(true, payload),
         _ => Value::Absent,
@@ -52,11 +53,19 @@ pub fn value_of(tag: u32, payload: u32) -> Value
 pub fn read_slot(slots: &[u32], s: u16) -> Value
     ensures { result ≡ slot_at slots.now s }
 {
-    let at = 2 * s as usize;
-    if at + 1 < slots.len() {
-        value_of(slots[at], slots[at + 1])
-    } else {
-        Value::Absent
+    let at = 2 * usize::from(s);
+    match slots.get(at..at + 2) {
+        Some([tag, payload]) => value_of(*tag, *payload),
+        _ => Value::Absent,
+    }
+}
+
+// Past the end nothing is put. Not by `get_mut` (iii): its contract doesn't tell what the slice ends as.
+pub fn put<T: Copy>(items: &mut [T], at: usize, item: T)
+    ensures { items.new ≡ set items.old at item }
+{
+    if at < items.len() {
+        items[at] = item;
     }
 }
 
@@ -64,15 +73,13 @@ pub fn read_slot(slots: &[u32], s: u16) -> Value
 pub fn write_word(words: &mut [u32], at: usize, word: u32)
     ensures { words.new ≡ set words.old at word }
 {
-    if at < words.len() {
-        words[at] = word;
-    }
+    put(words, at, word);
 }
 
 pub fn write_slot(slots: &mut [u32], s: u16, value: Value)
     ensures { slots.new ≡ with_slot slots.old s value }
 {
-    let at = 2 * s as usize;
+    let at = 2 * usize::from(s);
     write_word(slots, at, tag_of(value));
     write_word(slots, at + 1, payload_of(value));
 }

@@ -1,6 +1,5 @@
 // The bytes of a Text, where it stands.
 ghost use Rattle.std.specs.Prelude.{◌≡◌};
-ghost use Rattle.laws.specs.Same.{same};
 ghost use Rattle.grammar.specs.Values.{text_bytes, same_texts};
 ghost use Rattle.values.specs.Texts.{text_place};
 
@@ -13,39 +12,18 @@ pub fn text_bytes<'a>(message: &'a [u8], literals: &'a [u8], value: Value) -> &'
     ensures place { result.ref_ptr ≡ text_place message.entry literals.entry value }
 {
     match value {
+        // Not by `get` (iii): its contract doesn't tell where the part stands, and clause `place` does.
         Value::Text(s) => {
-            let literal = s.literal;
-            let start = s.start as usize;
-            let end = start + s.length as usize;
-            if literal {
-                if end <= literals.len() {
-                    return &literals[start..end];
-                }
-            } else {
-                if end <= message.len() {
-                    return &message[start..end];
-                }
+            let part = if s.literal { literals } else { message };
+            let start = usize::from(s.start);
+            let end = start + usize::from(s.length);
+            if end <= part.len() {
+                return &part[start..end];
             }
             &message[..0]
         }
         _ => &message[..0],
     }
-}
-
-fn same_bytes(x: &[u8], y: &[u8]) -> bool
-    ensures { result ≡ same x.now y.now }
-{
-    if x.len() != y.len() {
-        return false;
-    }
-    let mut i = 0;
-    while i < x.len() {
-        if x[i] != y[i] {
-            return false;
-        }
-        i += 1;
-    }
-    true
 }
 
 // "Two Texts are equal when their bytes are the same, wherever they stand."
@@ -54,5 +32,5 @@ pub fn same_texts<'a>(message: &'a [u8], literals: &'a [u8], s: Span, t: Span) -
 {
     let x = text_bytes(message, literals, Value::Text(s));
     let y = text_bytes(message, literals, Value::Text(t));
-    same_bytes(x, y)
+    x == y
 }

@@ -1,5 +1,5 @@
 -- A visit, in words: what it does to the run record and to the work area (document 01, 'Running'). Assumes nothing.
-use Rattle.std.specs.Prelude.{List, Bool, true, false, cond, ◌&&◌, ℕ, ◌+◌, ltb}
+use Rattle.std.specs.Prelude.{List, [], ◌∷◌, Result, Ok, Err, Bool, true, false, cond, ◌&&◌, ℕ, ◌+◌, ltb}
 use Rattle.grammar.specs.declared.Value.{Value}
 use Rattle.grammar.specs.declared.Value.TheVariants as Val
 use Rattle.grammar.specs.declared.Node.{Node}
@@ -8,8 +8,7 @@ use Rattle.grammar.specs.Words.{word, rule_word, inherited_count, node_at}
 use Rattle.grammar.specs.Values.{Evaluated, value, ends}
 use Rattle.grammar.specs.Run.{byte_stands, Due, fine, no_budget, too_deep}
 use Rattle.frames.specs.Frames.{written, pushed}
-use Rattle.calls.specs.declared.Given.{Given}
-use Rattle.calls.specs.declared.Given.TheVariants.{Are, Ends}
+use Rattle.grammar.specs.declared.Ended.{Ended}
 use Rattle.calls.specs.Calls.{inherited, evaluated, evaluated_four}
 use Rattle.stages.specs.declared.Stage.{Stage}
 use Rattle.stages.specs.declared.Stage.TheVariants as S
@@ -50,16 +49,16 @@ unfoldable pub opened : (k part : ℕ) → Run → List ℕ → Stepped
 opened k part r w = with (moved r (S.Enter part) r.at (r.frames + 1)) (pushed w r.frames k r.at)
 
 -- 'A call evaluates its arguments, runs the body in fresh slots'
-unfoldable pub called : Given → (body k : ℕ) → Run → List ℕ → Stepped
-called (Are f) body k r w = with (moved r (S.Enter body) r.at (r.frames + 1)) (inherited f (pushed w r.frames k r.at))
-called (Ends why j) body k r w = with (staged r (ended_at why j)) w
+unfoldable pub called : Result (List Value) Ended → (body k : ℕ) → Run → List ℕ → Stepped
+called (Ok values) body k r w = with (moved r (S.Enter body) r.at (r.frames + 1)) (inherited values (pushed w r.frames k r.at))
+called (Err end) body k r w = with (staged r (ended_at end.why end.node)) w
 
 module _ (words literals message : List ℕ) where
   -- the call whose record lies at a place
   abbrev pub called_at : (place k : ℕ) → Run → List ℕ → Stepped
   called_at place k r w =
       let field : ℕ → ℕ = λ j. word words (place + j) in
-      called (evaluated_four words literals message (inherited_count words (field 1)) (field 2) (field 3) (field 4) (field 5) w) (rule_word words (field 1) 0) k r w
+      called (evaluated_four words literals message (inherited_count words (field 1)) (field 2 ∷ field 3 ∷ field 4 ∷ field 5 ∷ []) w) (rule_word words (field 1) 0) k r w
 
   -- the visit of node k. A node that is no parsing node does as an empty one
   unfoldable pub begun : Node → ℕ → Run → List ℕ → Stepped
@@ -70,7 +69,7 @@ module _ (words literals message : List ℕ) where
   begun (N.Choice a b) k r w = opened k a r w
   begun (N.Repeat a) k r w = opened k a r w
   begun (N.Not a) k r w = opened k a r w
-  begun (N.Call q a b c d s t u v) k r w = called (evaluated_four words literals message (inherited_count words q) a b c d w) (rule_word words q 0) k r w
+  begun (N.Call q a b c d s t u v) k r w = called (evaluated_four words literals message (inherited_count words q) (a ∷ b ∷ c ∷ d ∷ []) w) (rule_word words q 0) k r w
   begun (N.Bind s a) k r w = opened k a r w
   begun (N.Update s e) k r w = updated (evaluated words literals message e w) s r w
   begun (N.Constraint e) k r w = with (constrained (evaluated words literals message e w) k r) w

@@ -115,12 +115,14 @@ fn effect(processor: &Processor, text: &str, comment: &str) -> Effect {
     (processor.effect)(instruction, &operands(rest), comment)
 }
 
-/// Between the commas that stand in no bracket.
+/// Between the commas that stand in no bracket, nor in a quoted name: that of a generic function has its types in it.
 fn operands(rest: &str) -> Vec<&str> {
     let mut all = Vec::new();
-    let (mut deep, mut from) = (0, 0);
+    let (mut deep, mut from, mut quoted) = (0, 0, false);
     for (at, c) in rest.char_indices() {
         match c {
+            '"' => quoted = !quoted,
+            _ if quoted => {}
             '(' | '[' | '{' => deep += 1,
             ')' | ']' | '}' => deep -= 1,
             ',' if deep == 0 => {

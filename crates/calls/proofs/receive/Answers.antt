@@ -1,10 +1,19 @@
-use Rattle.calls.specs.Calls.{received_at, received}
-use Prim.Native.Nat.{ℕ}
-use mathlib.Core.List.{List}
-use mathlib.Core.Path.{ap, ◌∙◌}
-use Rattle.calls.specs.Calls.{received}
+use Rattle.std.proofs.Common.{arith}
+use mathlib.Core.Path.{◌≡◌, refl, sym, ◌∙◌}
+use Rattle.calls.proofs.Slots.{first, first_more, first_past, first_four}
 use Rattle.calls.proofs.receive.Goals as goal
+use Rattle.calls.proofs.receive.Goals.{then-i-from, else-i-from}
+
+pub loop-i-init : goal.loop-i-init
+unfolding first
+loop-i-init c = refl
+
+pub loop-i-preserved : goal.loop-i-preserved
+loop-i-preserved c =
+    elim c.if-i-from.branch [
+      | then-i-from w ↦ rw (w.work-is, w.write_slot.ensures, c.loop-i.invariant) (sym (first_more _ _ _ _ _ (omega arith)))
+      | else-i-from w ↦ rw (w.work-is, c.loop-i.invariant) (sym (first_past _ _ _ _ _ (omega arith)))
+    ]
 
 pub returns : goal.returns
-unfolding received
-returns c = c.receive_at-4.ensures ∙ ap (λ (l : List ℕ). received_at 3 c.args.count c.args.v c.args.four.d l) (c.receive_at-3.ensures ∙ ap (λ (l : List ℕ). received_at 2 c.args.count c.args.u c.args.four.c l) (c.receive_at-2.ensures ∙ ap (λ (l : List ℕ). received_at 1 c.args.count c.args.t c.args.four.b l) c.receive_at.ensures))
+returns c = let last : c.loop-i.i ≡ 4 = omega arith in c.loop-i.invariant ∙ rw last (first_four c.args.count c.args.slots c.args.values c.args.work.now)

@@ -5,14 +5,8 @@ use Rattle.listing.proofs.write.Goals as goal
 pub returns-then-not-size_ok : goal.returns-then-not-size_ok
 returns-then-not-size_ok c = write_size _ _ _ (sym c.size_ok.ensures ∙ c.if-not-size_ok.true)
 
-pub put_listing-length-requires : goal.put_listing-length-requires
-put_listing-length-requires c = sym c.size_ok.ensures ∙ c.if-not-size_ok.false
-
 pub returns-then-text-length : goal.returns-then-text-length
 returns-then-text-length c = write_out _ _ _ (sym c.size_ok.ensures ∙ c.if-not-size_ok.false) c.put_listing-length.ensures c.if-text-length.true
-
-pub put_listing-requires : goal.put_listing-requires
-put_listing-requires c = sym c.size_ok.ensures ∙ c.if-not-size_ok.false
 
 pub returns : goal.returns
 returns c = write_done _ _ _ (sym c.size_ok.ensures ∙ c.if-not-size_ok.false) c.put_listing-length.ensures c.if-text-length.false c.put_listing.ensures.stored

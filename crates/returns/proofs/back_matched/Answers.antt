@@ -2,7 +2,7 @@ use Rattle.returns.proofs.Arms.{matched_rests, matched_top}
 use Rattle.returns.proofs.back_matched.Goals as goal
 
 pub returns-then-run-eq0 : goal.returns-then-run-eq0
-returns-then-run-eq0 c = cc (matched_rests c.args.words.now c.args.literals.now c.args.message.now c.args.run c.args.work.now c.args.run.frames c.if-run-eq0.true)
+returns-then-run-eq0 c = cc (matched_rests c.args.inputs.words.now c.args.inputs.literals.now c.args.inputs.message.now c.args.run c.args.work.now c.args.run.frames c.if-run-eq0.true)
 
 pub returns : goal.returns
-returns c = let a = c.args in cc (matched_top a.words.now a.literals.now a.message.now a.run a.work.now a.run.frames c.if-run-eq0.false)
+returns c = let a = c.args in cc (matched_top a.inputs.words.now a.inputs.literals.now a.inputs.message.now a.run a.work.now a.run.frames c.if-run-eq0.false)

@@ -1,15 +1,16 @@
 use Rattle.text.specs.Found.{digit}
-use borrow.Author.Tests.{lt-ltb, le-ltb}
+use Rattle.std.proofs.lemmas.Bool.Decides.{nat_tests}
+use native.Mathlib.Omega.{arith}
 use Rattle.text.proofs.digit_of.Goals as goal
 
-pub returns-then-byte-lt48 : goal.returns-then-byte-lt48
+pub returns-in-48-to-57 : goal.returns-in-48-to-57
 unfolding digit
-returns-then-byte-lt48 c = simp (lt-ltb _ _ c.if-byte-lt48.true)
+returns-in-48-to-57 c = grind (arith, nat_tests)
 
-pub returns-then-byte-gt57 : goal.returns-then-byte-gt57
+pub returns-in_default : goal.returns-in_default
 unfolding digit
-returns-then-byte-gt57 c = simp (le-ltb _ _ c.if-byte-lt48.false, lt-ltb _ _ c.if-byte-gt57.true)
+returns-in_default c = grind (arith, nat_tests)
 
-pub returns : goal.returns
+pub returns-in_default-2 : goal.returns-in_default-2
 unfolding digit
-returns c = simp (le-ltb _ _ c.if-byte-lt48.false, le-ltb _ _ c.if-byte-gt57.false)
+returns-in_default-2 c = grind (arith, nat_tests)

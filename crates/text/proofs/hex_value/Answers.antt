@@ -1,19 +1,24 @@
-use Rattle.text.specs.Found.{hex_value}
-use borrow.Author.Tests.{lt-ltb, le-ltb}
+use Rattle.text.specs.Found.{digit, hex_value}
+use Rattle.std.proofs.lemmas.Bool.Decides.{nat_tests}
+use native.Mathlib.Omega.{arith}
 use Rattle.text.proofs.hex_value.Goals as goal
 
-pub returns-then-d-le9 : goal.returns-then-d-le9
-unfolding hex_value
-returns-then-d-le9 c = simp (← c.digit_of-d.ensures, le-ltb _ _ c.if-d-le9.true)
+pub returns-in-48-to-57 : goal.returns-in-48-to-57
+unfolding digit hex_value
+returns-in-48-to-57 c = grind (arith, nat_tests)
 
-pub returns-then-byte-lt-LETTER_TEN : goal.returns-then-byte-lt-LETTER_TEN
-unfolding hex_value
-returns-then-byte-lt-LETTER_TEN c = simp (← c.digit_of-d.ensures, lt-ltb _ _ c.if-d-le9.false, lt-ltb _ _ c.if-byte-lt-LETTER_TEN.true)
+pub returns-in-97-to-102 : goal.returns-in-97-to-102
+unfolding digit hex_value
+returns-in-97-to-102 c = grind (arith, nat_tests)
 
-pub returns-then-byte : goal.returns-then-byte
-unfolding hex_value
-returns-then-byte c = simp (← c.digit_of-d.ensures, lt-ltb _ _ c.if-d-le9.false, le-ltb _ _ c.if-byte-lt-LETTER_TEN.false, lt-ltb _ _ c.if-byte.true)
+pub returns-in_default : goal.returns-in_default
+unfolding digit hex_value
+returns-in_default c = grind (arith, nat_tests)
 
-pub returns : goal.returns
-unfolding hex_value
-returns c = simp (← c.digit_of-d.ensures, lt-ltb _ _ c.if-d-le9.false, le-ltb _ _ c.if-byte-lt-LETTER_TEN.false, le-ltb _ _ c.if-byte.false)
+pub returns-in_default-2 : goal.returns-in_default-2
+unfolding digit hex_value
+returns-in_default-2 c = grind (arith, nat_tests)
+
+pub returns-in_default-3 : goal.returns-in_default-3
+unfolding digit hex_value
+returns-in_default-3 c = grind (arith, nat_tests)

@@ -1,15 +1,24 @@
 use Rattle.text.specs.Found.{pair_value}
-use borrow.Author.Tests.{lt-ltb, le-ltb}
+use Rattle.text.proofs.Pairs.{value_byte}
+use mathlib.Core.Path.{sym, ◌∙◌}
+use native.Mathlib.Omega.{arith}
 use Rattle.text.proofs.pair_value.Goals as goal
 
-pub returns-then-high-gt15 : goal.returns-then-high-gt15
-unfolding pair_value
-returns-then-high-gt15 c = simp (← c.hex_value-high.ensures, lt-ltb _ _ c.if-high-gt15.true)
+pub overflow_mul-result : goal.overflow_mul-result
+overflow_mul-result c = omega (arith, (value_byte c.args.first c.in_ok-high.high (sym c.hex_value.ensures ∙ c.in_ok-high.was)).small)
 
-pub returns-then-low-gt15 : goal.returns-then-low-gt15
+pub overflow_add-result : goal.overflow_add-result
+overflow_add-result c =
+    omega (arith, (value_byte c.args.first c.in_ok-high.high (sym c.hex_value.ensures ∙ c.in_ok-high.was)).small, (value_byte c.args.second c.in_ok-low.low (sym c.hex_value-2.ensures ∙ c.in_ok-low.was)).small)
+
+pub returns-in_err-high : goal.returns-in_err-high
 unfolding pair_value
-returns-then-low-gt15 c = simp (← c.hex_value-high.ensures, ← c.hex_value-low.ensures, le-ltb _ _ c.if-high-gt15.false, lt-ltb _ _ c.if-low-gt15.true)
+returns-in_err-high c = rw (sym c.hex_value.ensures ∙ c.in_err-high.was) c.from_residual.ensures
+
+pub returns-in_err-low : goal.returns-in_err-low
+unfolding pair_value
+returns-in_err-low c = rw (sym c.hex_value.ensures ∙ c.in_ok-high.was, sym c.hex_value-2.ensures ∙ c.in_err-low.was) c.from_residual-in_err-low.ensures
 
 pub returns : goal.returns
 unfolding pair_value
-returns c = simp (← c.hex_value-high.ensures, ← c.hex_value-low.ensures, le-ltb _ _ c.if-high-gt15.false, le-ltb _ _ c.if-low-gt15.false)
+returns c = rw (sym c.hex_value.ensures ∙ c.in_ok-high.was, sym c.hex_value-2.ensures ∙ c.in_ok-low.was)

@@ -1,11 +1,7 @@
 use Rattle.text.proofs.Writing.{Left}
 use Rattle.text.specs.Written.{hex}
-use lib.ListN.{length, drop}
-use Prim.Native.Nat.{◌-◌, ◌≤◌}
+use lib.ListN.{drop}
 use Rattle.text.proofs.put_hex.Given as goal
 
-abbrev pub invariant-loop-i : goal.invariant-loop-i
-invariant-loop-i l = (l.i ≤ length l.bytes) × Left l.text l.next (hex (drop l.i l.bytes)) l.initial.text l.at (hex l.bytes)
-
-abbrev pub decreases-loop-i : goal.decreases-loop-i
-decreases-loop-i l = length l.bytes - l.i
+abbrev pub invariant-loop-byte : goal.invariant-loop-byte
+invariant-loop-byte l = Left l.text l.next (hex (drop l.byte-index l.bytes)) l.initial.text l.at (hex l.bytes)

@@ -1,11 +1,10 @@
 use Rattle.text.proofs.Taking.{Still}
 use Rattle.text.specs.Found.{pairs}
+use Rattle.std.specs.Slice.Iter.{chunks_rest, chunks_size}
 use lib.ListN.{length, drop}
-use Prim.Native.Nat.{◌-◌, ◌≤◌}
+use Prim.Native.Nat.{◌+◌, ◌≤◌}
+use mathlib.Core.Path.{◌≡◌}
 use Rattle.text.proofs.read_hex.Given as goal
 
-abbrev pub invariant-loop-i : goal.invariant-loop-i
-invariant-loop-i l = (l.n ≤ l.i) × Still (pairs l.n l.i (drop l.i l.text)) l.bytes l.n (pairs 0 l.at (drop l.at l.text)) l.initial.bytes 0
-
-abbrev pub decreases-loop-i : goal.decreases-loop-i
-decreases-loop-i l = length l.text - l.i
+abbrev pub invariant-loop-pair : goal.invariant-loop-pair
+invariant-loop-pair l = (chunks_size l.pair-iterator ≡ 2) × (l.p + length (chunks_rest l.pair-iterator) ≡ length l.text) × (l.n ≤ l.p) × Still (pairs l.n l.p (chunks_rest l.pair-iterator)) l.bytes l.n (pairs 0 l.at (drop l.at l.text)) l.initial.bytes 0

@@ -1,11 +1,8 @@
 use Rattle.text.specs.Found.{number, number_from}
-use lib.ListN.{length, drop}
-use Prim.Native.Nat.{◌-◌, ◌≤◌}
+use lib.ListN.{drop}
+use Prim.Native.Nat.{◌≤◌}
 use mathlib.Core.Path.{◌≡◌}
 use Rattle.text.proofs.read_number.Given as goal
 
 abbrev pub invariant-loop-i : goal.invariant-loop-i
-invariant-loop-i l = (l.i ≤ length l.text) × ((l.value ≤ l.limit) × (number_from l.end l.limit l.value l.i (drop l.i l.text) ≡ number l.end l.limit l.at (drop l.at l.text)))
-
-abbrev pub decreases-loop-i : goal.decreases-loop-i
-decreases-loop-i l = length l.text - l.i
+invariant-loop-i l = (l.value ≤ l.limit) × (number_from l.end l.limit l.value l.i (drop l.i l.text) ≡ number l.end l.limit l.at (drop l.at l.text))

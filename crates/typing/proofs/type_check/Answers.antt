@@ -1,15 +1,14 @@
-use Rattle.typing.proofs.Whole.{refusal_stands}
-use Rattle.grammar.specs.Answer.{type_check, type_rules}
-use mathlib.Core.Path.{sym, ◌∙◌}
+use mathlib.Core.Path.{refl}
+use Rattle.std.proofs.lemmas.Result.{err_from_is_err_and}
+use Rattle.grammar.specs.Answer.{type_check}
 use Rattle.typing.proofs.type_check.Goals as goal
 
-pub typed_rules-requires : goal.typed_rules-requires
-typed_rules-requires c = record { literals = c.args.literals.now; passed = sym c.check-verdict.ensures ∙ c.in-Passed.is }
-
-pub returns-in-Passed : goal.returns-in-Passed
+pub returns-in_err-check : goal.returns-in_err-check
 unfolding type_check
-returns-in-Passed c = rw (← c.check-verdict.ensures, c.in-Passed.is) c.typed_rules.ensures
+returns-in_err-check c =
+    let p = err_from_is_err_and c.from_residual.result c.from_residual.ensures.1 in
+    rw (← c.check.ensures, c.in_err-check.was, p.1, p.2) refl
 
-pub returns-in_default : goal.returns-in_default
+pub returns : goal.returns
 unfolding type_check
-returns-in_default c = rw (← c.check-verdict.ensures) (refusal_stands c.check-verdict.result (type_rules c.args.words.now) c.in_default.not-Passed)
+returns c = rw (← c.check.ensures, c.in_ok-check.was) c.typed_rules.ensures

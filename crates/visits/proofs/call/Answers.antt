@@ -1,10 +1,10 @@
 use Rattle.visits.specs.Visits.{called}
 use Rattle.visits.proofs.call.Goals as goal
 
-pub returns-in-Are : goal.returns-in-Are
+pub returns-in-Ok : goal.returns-in-Ok
 unfolding called
-returns-in-Are c = rw c.in-Are.is (cc)
+returns-in-Ok c = rw c.in-Ok.is (cc)
 
-pub returns-in-Ends : goal.returns-in-Ends
+pub returns-in-Err : goal.returns-in-Err
 unfolding called
-returns-in-Ends c = rw c.in-Ends.is (cc)
+returns-in-Err c = rw c.in-Err.is (cc)

@@ -4,8 +4,8 @@ use Rattle.visits.specs.Visits.{consumed}
 use Rattle.visits.proofs.Arms.{stands_small}
 use Rattle.visits.proofs.consume.Goals as goal
 
-pub overflow_add-at : goal.overflow_add-at
-overflow_add-at c = let a = c.args in omega (arith, stands_small a.message.now a.run.at a.byte (sym c.byte_stands.ensures ∙ c.if-byte_stands.true))
+pub overflow_add-run : goal.overflow_add-run
+overflow_add-run c = let a = c.args in omega (arith, stands_small a.message.now a.run.at a.byte (sym c.byte_stands.ensures ∙ c.if-byte_stands.true))
 
 pub returns-then-byte_stands : goal.returns-then-byte_stands
 unfolding consumed

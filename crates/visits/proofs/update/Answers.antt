@@ -2,10 +2,10 @@ use Rattle.visits.specs.Visits.{updated}
 use Rattle.expressions.specs.Meant.{meant}
 use Rattle.visits.proofs.update.Goals as goal
 
-pub returns-in-Is : goal.returns-in-Is
+pub returns-in-Ok : goal.returns-in-Ok
 unfolding updated meant
-returns-in-Is c = rw c.in-Is.is (cc)
+returns-in-Ok c = rw c.in-Ok.is (cc)
 
-pub returns-in-Ends : goal.returns-in-Ends
+pub returns-in-Err : goal.returns-in-Err
 unfolding updated meant
-returns-in-Ends c = rw c.in-Ends.is (cc)
+returns-in-Err c = rw c.in-Err.is (cc)

@@ -1,4 +1,4 @@
 use Rattle.exports.proofs.boundary.put_four.Goals as goal
 
 pub returns : goal.returns
-returns c = cc
+returns g c = cc

@@ -2,14 +2,14 @@ use Rattle.listing.specs.Answers.{writing_number, writing_place, writing_length}
 use Rattle.exports.specs.Boundary.{with_writing}
 use Rattle.exports.proofs.boundary.put_writing.Goals as goal
 
-pub returns-in-Done : goal.returns-in-Done
+pub returns-in-Ok : goal.returns-in-Ok
 unfolding with_writing writing_number writing_place writing_length
-returns-in-Done c = rw c.in-Done.is (cc)
+returns-in-Ok c = rw c.in-Ok.is (cc)
 
 pub returns-in-Size : goal.returns-in-Size
 unfolding with_writing writing_number writing_place writing_length
-returns-in-Size c = rw c.in-Size.is (cc)
+returns-in-Size c = rw (c.in-Err.is, c.in-Size.is) (cc)
 
 pub returns-in-Out : goal.returns-in-Out
 unfolding with_writing writing_number writing_place writing_length
-returns-in-Out c = rw c.in-Out.is (cc)
+returns-in-Out c = rw (c.in-Err.is, c.in-Out.is) (cc)

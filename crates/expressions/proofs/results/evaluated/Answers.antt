@@ -4,9 +4,9 @@ use Rattle.expressions.specs.Meant.{meant}
 use mathlib.Core.Path.{sym}
 use Rattle.expressions.proofs.results.evaluated.Goals as goal
 
-pub returns-then-tag-lt5 : goal.returns-then-tag-lt5
+pub returns-then-g-lt5 : goal.returns-then-g-lt5
 unfolding meant
-returns-then-tag-lt5 c = rw c.value_of.ensures (sym (value_given c.args.g.tag c.args.g.payload c.if-tag-lt5.true))
+returns-then-g-lt5 c = rw c.value_of.ensures (sym (value_given c.args.g.tag c.args.g.payload c.if-g-lt5.true))
 
 pub returns-in-6 : goal.returns-in-6
 unfolding meant given_of
@@ -18,4 +18,4 @@ returns-in-7 c = rw c.in-7.is
 
 pub returns-in_default : goal.returns-in_default
 unfolding meant
-returns-in_default c = stuck_given c.args.g.tag c.args.g.payload c.if-tag-lt5.false c.in_default.in_default-own.rest.0.1 c.in_default.in_default-own.rest.1
+returns-in_default c = stuck_given c.args.g.tag c.args.g.payload c.if-g-lt5.false c.in_default.in_default-own.rest.0.1 c.in_default.in_default-own.rest.1

@@ -15,4 +15,4 @@ pub returns-else-kind-eq16 : goal.returns-else-kind-eq16
 returns-else-kind-eq16 c = c.truth-else-kind-eq16.ensures ∙ leaf_other (slots_of (take 32 c.args.slots.now)) c.args.k c.args.a c.args.b c.args.kind (omega arith)
 
 pub returns : goal.returns
-returns c = leaf_words (slots_of (take 32 c.args.slots.now)) c.args.k c.args.a c.args.b c.args.kind (omega arith) (omega arith) (omega arith)
+returns c = rw (c.from.ensures, c.from-2.ensures, c.from-3.ensures) (leaf_words (slots_of (take 32 c.args.slots.now)) c.args.k c.args.a c.args.b c.args.kind (omega arith) (omega arith) (omega arith))

@@ -2,4 +2,4 @@ use Rattle.expressions.proofs.Givens.{truth_is}
 use Rattle.expressions.proofs.results.truth.Goals as goal
 
 pub returns : goal.returns
-returns c = truth_is c.args.b
+returns c = rw c.from.ensures (truth_is c.args.b)

@@ -13,4 +13,4 @@ pub returns-in-Left : goal.returns-in-Left
 returns-in-Left c = λ words slots levels pile w on. absurd (c.requires c.in-Left.is)
 
 pub returns-in-Both : goal.returns-in-Both
-returns-in-Both c = λ words slots levels pile w on. settled_both (asked words c.args.literals.now c.args.message.now slots levels) pile c.args.s w on _ c.in-Both.is c.result-in-Both.ensures c.operate_given.ensures
+returns-in-Both c = λ words slots levels pile w on. settled_both (asked words c.args.literals.now c.args.message.now slots levels) pile c.args.s w on _ c.in-Both.is c.result-in-Both.ensures (rw c.operator.ensures at c.operate_given-g.ensures)

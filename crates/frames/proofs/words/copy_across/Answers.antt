@@ -8,24 +8,6 @@ pub loop-i-init : goal.loop-i-init
 unfolding copied
 loop-i-init c = (omega arith, refl, refl)
 
-pub overflow_add-from : goal.overflow_add-from
-overflow_add-from c = omega arith
-
-pub get-word-requires : goal.get-word-requires
-get-word-requires c = tt
-
-pub overflow_add-to : goal.overflow_add-to
-overflow_add-to c = omega arith
-
-pub write_word-requires : goal.write_word-requires
-write_word-requires c = tt
-
-pub overflow_step-i : goal.overflow_step-i
-overflow_step-i c = omega arith
-
-pub loop-i-smaller : goal.loop-i-smaller
-loop-i-smaller c = omega arith
-
 pub loop-i-preserved : goal.loop-i-preserved
 loop-i-preserved c = (omega arith, cc (copied_more c.args.words.now c.args.from c.args.to c.loop-i.i), c.write_word.auto.words ∙ c.loop-i.invariant.2)
 

@@ -1,42 +1,26 @@
-use Rattle.text.proofs.Taking.{took_length}
-use Rattle.listing.proofs.Steps.{lines_at_done, lines_at_wrong, lines_at_more}
+use Rattle.std.proofs.lemmas.Result.{err_from_is_err_and}
+use Rattle.listing.proofs.Steps.{not_found, lines_at_done, lines_at_wrong, lines_at_more}
 use Rattle.listing.proofs.Found.{line_found}
-use Rattle.listing.proofs.Lines.{record_room}
-use Rattle.text.proofs.Taking.{still_all, still_step, still_end, still_last, still_length, took_wrote}
+use Rattle.listing.proofs.Lines.{record_place, record_next}
+use Rattle.text.proofs.Taking.{still_step, still_end, still_last, took_wrote}
 use Rattle.text.specs.Stored.{largest_place}
+use Prim.Native.Nat.{◌+◌, ◌-◌}
 use native.Mathlib.Omega.{arith}
-use mathlib.Core.Path.{sym, ◌∙◌}
+use mathlib.Core.Path.{◌≡◌, sym, ◌∙◌}
 use Rattle.listing.proofs.reader.read_lines.Goals as goal
 
-pub loop-left-init : goal.loop-left-init
-loop-left-init c = (c.requires.0, (c.requires.1, still_all _ _ _))
-
-pub read_line-requires : goal.read_line-requires
-read_line-requires c = (record_room c.loop-left.i c.loop-left.left c.args.width largest_place c.loop-left-test.true c.loop-left.invariant.0).0
-
-pub shape_of-words-in_default : goal.shape_of-words-in_default
-shape_of-words-in_default c = took_length c.read_line.ensures ∙ still_length c.loop-left.invariant.1.1
-
-pub returns-in_default : goal.returns-in_default
-returns-in_default c = still_last c.loop-left.invariant.1.1 c.read_line.ensures (lines_at_wrong _ _ _ _ _ _ _ c.loop-left-test.true c.read_line.ensures.found_is c.in_default.is)
-
-pub overflow_add-i : goal.overflow_add-i
-overflow_add-i c = omega (arith, record_room c.loop-left.i c.loop-left.left c.args.width largest_place c.loop-left-test.true c.loop-left.invariant.0)
-
-pub overflow_add-n : goal.overflow_add-n
-overflow_add-n c = omega arith
-
-pub overflow_sub-left : goal.overflow_sub-left
-overflow_sub-left c = omega arith
-
-pub loop-left-smaller : goal.loop-left-smaller
-loop-left-smaller c = omega arith
-
-pub loop-left-preserved : goal.loop-left-preserved
-loop-left-preserved c = ((record_room c.loop-left.i c.loop-left.left c.args.width largest_place c.loop-left-test.true c.loop-left.invariant.0).1, (omega arith, still_step (omega arith) c.loop-left.invariant.1.1 (lines_at_more _ _ _ _ _ _ _ c.loop-left-test.true c.read_line.ensures.found_is _ c.in-At.is) (took_wrote c.read_line.ensures (omega (arith, (line_found c.args.text.now c.args.key.now c.args.width c.loop-left.p _ (sym c.read_line.ensures.found_is ∙ c.in-At.is)).count, record_room c.loop-left.i c.loop-left.left c.args.width largest_place c.loop-left-test.true c.loop-left.invariant.0)))))
-
-pub shape_of-words : goal.shape_of-words
-shape_of-words c = still_length c.loop-left.invariant.1.1
-
 pub returns : goal.returns
-returns c = still_end c.loop-left.invariant.1.1 (lines_at_done _ _ _ _ _ _ c.loop-left-test.false)
+returns c = still_end c.loop-i.invariant (lines_at_done _ _ _ _ _ _ (omega arith))
+
+pub returns-in_err-p : goal.returns-in_err-p
+returns-in_err-p c =
+    let p = err_from_is_err_and c.from_residual.result c.from_residual.ensures.1 in
+    let m = not_found c.read_line.result (c.args.number + c.loop-i.i) _ c.in_err-p.ensures.value c.in_err-p.ensures.ok_part in
+    rw (p.1, p.2, m) (still_last c.loop-i.invariant c.read_line.ensures (lines_at_wrong _ _ _ _ (c.args.count - (c.loop-i.i + 1)) _ _ _ (omega arith) c.read_line.ensures.found_is c.in_err-p.ensures.ok_part))
+
+pub loop-i-preserved : goal.loop-i-preserved
+loop-i-preserved c =
+    let n : c.args.number + (c.loop-i.i + 1) ≡ c.args.number + c.loop-i.i + 1 = omega arith in
+    let l = line_found c.args.text.now c.args.records.key.now c.args.records.width c.loop-i.p _ (sym c.read_line.ensures.found_is ∙ c.in_ok-p.ensures.ok_part) in
+    rw n (still_step (omega arith) c.loop-i.invariant (lines_at_more _ _ _ _ (c.args.count - (c.loop-i.i + 1)) _ _ _ (omega arith) c.read_line.ensures.found_is _ c.in_ok-p.ensures.ok_part)
+    (took_wrote c.read_line.ensures (omega (arith, l.count, record_place c.loop-i.i c.args.count c.args.records.width c.args.from largest_place c.loop-i-test.true c.requires.0, record_next c.loop-i.i c.args.records.width c.args.from))))

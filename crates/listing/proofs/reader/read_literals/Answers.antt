@@ -4,14 +4,14 @@ use Rattle.text.proofs.Taking.{took_as, took_none}
 use mathlib.Core.Path.{sym, ◌∙◌}
 use Rattle.listing.proofs.reader.read_literals.Goals as goal
 
-pub returns-in_default : goal.returns-in_default
-returns-in_default c = took_as (literals_at_wrong _ _ _ c.after_key.ensures c.in_default.is) (took_none _ _ _)
+pub returns-in_err-p : goal.returns-in_err-p
+returns-in_err-p c = rw c.from_residual.ensures (took_as (literals_at_wrong _ _ _ c.after_key.ensures c.in_err-p.was) (took_none _ _ _))
 
-pub returns-in_default-found : goal.returns-in_default-found
-returns-in_default-found c = took_as (literals_at_lem _ _ _ _ c.after_key.ensures c.in-At.is) (pairs_wrong 0 4096 c.read_hex-found.ensures c.in_default-found.is)
+pub returns-in_err-n : goal.returns-in_err-n
+returns-in_err-n c = rw c.from_residual-in_err-n.ensures (took_as (literals_at_lem _ _ _ _ c.after_key.ensures c.in_ok-p.was) (pairs_wrong 0 4096 c.read_hex.ensures c.in_err-n.was))
 
 pub returns-then-not-in_range : goal.returns-then-not-in_range
-returns-then-not-in_range c = took_as (literals_at_lem _ _ _ _ c.after_key.ensures c.in-At.is) (pairs_outside 0 4096 c.read_hex-found.ensures _ _ c.in-Are.is (sym c.in_range.ensures ∙ c.if-not-in_range.true))
+returns-then-not-in_range c = took_as (literals_at_lem _ _ _ _ c.after_key.ensures c.in_ok-p.was) (pairs_outside 0 4096 c.read_hex.ensures _ _ c.in_ok-n.was (sym c.in_range.ensures ∙ c.if-not-in_range.true))
 
 pub returns : goal.returns
-returns c = took_as (literals_at_lem _ _ _ _ c.after_key.ensures c.in-At.is) (pairs_inside 0 4096 c.read_hex-found.ensures _ _ c.in-Are.is (sym c.in_range.ensures ∙ c.if-not-in_range.false))
+returns c = took_as (literals_at_lem _ _ _ _ c.after_key.ensures c.in_ok-p.was) (pairs_inside 0 4096 c.read_hex.ensures _ _ c.in_ok-n.was (sym c.in_range.ensures ∙ c.if-not-in_range.false))

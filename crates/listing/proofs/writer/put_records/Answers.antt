@@ -1,33 +1,24 @@
-use Rattle.listing.proofs.Lines.{record_room, records_one, records_none}
-use Rattle.text.proofs.Writing.{left_all, left_step, left_done, left_length}
+use Rattle.listing.proofs.Lines.{records_one, records_none}
+use Rattle.text.proofs.Writing.{left_step, left_done}
+use Rattle.listing.specs.Listing.{record_lines}
 use lib.ListN.{length}
+use Prim.Native.Nat.{◌/◌}
+use mathlib.Core.List.{List}
+use Prim.Native.Nat.{ℕ}
 use native.Mathlib.Omega.{arith}
-use mathlib.Core.Path.{refl}
+use mathlib.Core.Path.{ap, ◌∙◌}
 use Rattle.listing.proofs.writer.put_records.Goals as goal
 
-pub loop-left-init : goal.loop-left-init
-loop-left-init c = (omega arith, left_all _ _ _ (omega arith))
-
-pub overflow_add-to : goal.overflow_add-to
-overflow_add-to c = omega (arith, record_room c.loop-left.from c.loop-left.left c.args.width (length c.args.words.now) c.loop-left-test.true c.loop-left.invariant.0)
-
-pub offset_bounds-words-from : goal.offset_bounds-words-from
-offset_bounds-words-from c = omega (arith, record_room c.loop-left.from c.loop-left.left c.args.width (length c.args.words.now) c.loop-left-test.true c.loop-left.invariant.0)
-
-pub slice_bounds-put_line-count : goal.slice_bounds-put_line-count
-slice_bounds-put_line-count c = omega arith
-
-pub overflow_sub-left : goal.overflow_sub-left
-overflow_sub-left c = omega arith
-
-pub loop-left-smaller : goal.loop-left-smaller
-loop-left-smaller c = omega arith
-
-pub loop-left-preserved : goal.loop-left-preserved
-loop-left-preserved c = ((record_room c.loop-left.from c.loop-left.left c.args.width (length c.args.words.now) c.loop-left-test.true c.loop-left.invariant.0).1, left_step (omega arith) c.loop-left.invariant.1 (records_one _ _ _ _ _ _ c.loop-left-test.true refl) c.put_line-next.ensures)
-
-pub shape_of-text : goal.shape_of-text
-shape_of-text c = left_length c.loop-left.invariant.1
+pub loop-record-preserved : goal.loop-record-preserved
+loop-record-preserved c =
+    let h = c.in-Some.ensures.steps in (
+      h.0 ∙ c.loop-record.invariant.0,
+      left_step (omega arith) c.loop-record.invariant.1
+          (ap (λ (z : List ℕ). record_lines c.args.records.key.now c.args.records.width (length z / c.args.records.width) z) h.1.0 ∙ records_one _ _ _ _ c.requires (h.1.1 ∙ c.loop-record.invariant.0))
+          c.put_line-next.ensures,
+    )
 
 pub returns : goal.returns
-returns c = left_done c.loop-left.invariant.1 (records_none _ _ _ _ c.loop-left-test.false)
+returns c =
+    let h = c.in-None.ensures.steps in
+    left_done c.loop-record.invariant.1 (records_none _ _ _ (omega (arith, h.1.0, c.loop-record.invariant.0)))

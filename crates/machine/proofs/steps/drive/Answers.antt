@@ -3,23 +3,23 @@ use Rattle.stages.specs.Stages.{with}
 use mathlib.Core.Path.{refl, sym, ◌∙◌}
 use Rattle.machine.proofs.steps.drive.Goals as goal
 
-pub loop-work-init : goal.loop-work-init
-loop-work-init c = (refl, refl)
+pub loop-inputs-init : goal.loop-inputs-init
+loop-inputs-init c = (refl, refl)
 
 pub goes_on-requires : goal.goes_on-requires
 goes_on-requires c = tt
 
 pub stride-now-requires : goal.stride-now-requires
-stride-now-requires c = sym c.goes_on.ensures ∙ c.loop-work-test.true
+stride-now-requires c = sym c.goes_on.ensures ∙ c.loop-inputs-test.true
 
-pub loop-work-smaller : goal.loop-work-smaller
-loop-work-smaller c = c.stride-now.ensures.less
+pub loop-inputs-smaller : goal.loop-inputs-smaller
+loop-inputs-smaller c = c.stride-now.ensures.less
 
-pub loop-work-preserved : goal.loop-work-preserved
-loop-work-preserved c = (c.stride-now.ensures.same ∙ c.loop-work.invariant.0, c.stride-now.auto.work ∙ c.loop-work.invariant.1)
+pub loop-inputs-preserved : goal.loop-inputs-preserved
+loop-inputs-preserved c = (c.stride-now.ensures.same ∙ c.loop-inputs.invariant.0, c.stride-now.auto.work ∙ c.loop-inputs.invariant.1)
 
 pub shape_of-work : goal.shape_of-work
-shape_of-work c = c.loop-work.invariant.1
+shape_of-work c = c.loop-inputs.invariant.1
 
 pub returns : goal.returns
-returns c = sym (driven_rest c.args.words.now c.args.literals.now c.args.message.now c.args.budget (with c.loop-work.now c.loop-work.work) (sym c.goes_on.ensures ∙ c.loop-work-test.false)) ∙ c.loop-work.invariant.0
+returns c = sym (driven_rest c.args.inputs.words.now c.args.inputs.literals.now c.args.inputs.message.now c.args.budget (with c.loop-inputs.now c.loop-inputs.work) (sym c.goes_on.ensures ∙ c.loop-inputs-test.false)) ∙ c.loop-inputs.invariant.0

@@ -1,10 +1,10 @@
 use Rattle.machine.specs.Drive.{done_answer}
 use Rattle.runs.proofs.answers.done.Goals as goal
 
-pub returns-in-Are : goal.returns-in-Are
+pub returns-in-Ok : goal.returns-in-Ok
 unfolding done_answer
-returns-in-Are c = rw c.in-Are.is
+returns-in-Ok c = rw c.in-Ok.is
 
-pub returns-in-Ends : goal.returns-in-Ends
+pub returns-in-Err : goal.returns-in-Err
 unfolding done_answer
-returns-in-Ends c = rw c.in-Ends.is c.ended.ensures
+returns-in-Err c = rw c.in-Err.is c.ended.ensures

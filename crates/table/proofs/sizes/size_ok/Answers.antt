@@ -1,38 +1,43 @@
-use Rattle.laws.proofs.Range.{outside}
-use Rattle.table.proofs.Size.{Sized, size_wrong, size_found}
-use native.Mathlib.Omega.{arith}
-use mathlib.Core.Path.{sym, ◌∙◌}
+-- `table::sizes::size_ok` meets its contract: each test holds, or none that comes after it is made. Assumes nothing.
+use mathlib.Core.Bool.{◌&&◌}
+use mathlib.Core.Path.{◌≡◌, refl, ◌∙◌}
+use Prim.Native.Nat.{◌+◌, ◌*◌}
+use lib.Dec.{leb, eqb}
+use lib.ListN.{length}
+use borrow.Author.Tests.{le-leb, lt-leb}
+use Rattle.laws.specs.Range.{within}
+use Rattle.table.proofs.Size.{size_tests}
 use Rattle.table.proofs.sizes.size_ok.Goals as goal
-
-pub returns-then-words-lt3 : goal.returns-then-words-lt3
-returns-then-words-lt3 c = size_wrong _ _ (λ (s : Sized c.args.words.now c.args.literal_bytes). omega (arith, s.three))
-
-pub returns-then-not-in_range : goal.returns-then-not-in_range
-returns-then-not-in_range c = size_wrong _ _ (λ (s : Sized c.args.words.now c.args.literal_bytes). outside 1 64 _ _ _ c.in_range.ensures c.wide-rules.ensures (c.if-not-in_range.true) s.rules_least s.rules_most)
-
-pub returns-then-not-in_range-2 : goal.returns-then-not-in_range-2
-returns-then-not-in_range-2 c = size_wrong _ _ (λ (s : Sized c.args.words.now c.args.literal_bytes). outside 1 1024 _ _ _ c.in_range-2.ensures c.wide-nodes.ensures (c.if-not-in_range-2.true) s.nodes_least s.nodes_most)
-
-pub returns-then-not-in_range-3 : goal.returns-then-not-in_range-3
-returns-then-not-in_range-3 c = size_wrong _ _ (λ (s : Sized c.args.words.now c.args.literal_bytes). outside 0 4096 _ _ _ c.in_range-3.ensures c.wide-literals.ensures (c.if-not-in_range-3.true) (omega arith) s.literals_most)
-
-pub overflow_mul-rules : goal.overflow_mul-rules
-overflow_mul-rules c = omega (arith, c.wide-rules.ensures, c.type_inv.words 0)
-
-pub overflow_add-rules : goal.overflow_add-rules
-overflow_add-rules c = omega (arith, c.wide-rules.ensures, c.type_inv.words 0)
-
-pub overflow_mul-nodes : goal.overflow_mul-nodes
-overflow_mul-nodes c = omega (arith, c.wide-nodes.ensures, c.type_inv.words 1)
-
-pub overflow_add-rules-2 : goal.overflow_add-rules-2
-overflow_add-rules-2 c = omega (arith, c.wide-rules.ensures, c.wide-nodes.ensures, c.type_inv.words 0, c.shared_slice_known-2-1.given 1)
+use Rattle.table.proofs.sizes.size_ok.Goals.{then-words-ge3, else-words-ge3, then-in_range, else-in_range, then-in_range-2, else-in_range-2, then-literals-le4096, else-literals-le4096}
 
 pub returns-then-words-rules : goal.returns-then-words-rules
-returns-then-words-rules c = size_wrong _ _ (λ (s : Sized c.args.words.now c.args.literal_bytes). c.if-words-rules.true (omega (arith, s.words_are, c.wide-rules.ensures, c.wide-nodes.ensures)))
+returns-then-words-rules c =
+    let w = c.args.words.now in
+    let one : c.if-words-ge3.value ≡ (leb 3 (length w) && within 1 64 c.from-rules.result) =
+    elim c.if-words-ge3.branch [ then-words-ge3 y ↦ rw (le-leb _ _ y.if-words-ge3.true, y.value-is, y.in_range.ensures) refl | else-words-ge3 n ↦ rw (n.value-is, lt-leb _ _ n.if-words-ge3.false) refl ] in
+    let two : c.if-in_range.value ≡ (c.if-words-ge3.value && within 1 1024 c.from-nodes.result) =
+    elim c.if-in_range.branch [ then-in_range y ↦ rw (y.if-in_range.true, y.value-is, y.in_range-then-in_range.ensures) refl | else-in_range n ↦ rw (n.value-is, n.if-in_range.false) refl ] in
+    let three : c.if-in_range-2.value ≡ (c.if-in_range.value && leb c.from-literals.result 4096) =
+    elim c.if-in_range-2.branch [ then-in_range-2 y ↦ rw (y.if-in_range-2.true, y.value-is) refl | else-in_range-2 n ↦ rw (n.value-is, n.if-in_range-2.false) refl ] in
+    let four : c.if-literals-le4096.value ≡ (c.if-in_range-2.value && eqb (length w) (3 + 15 * c.from-rules.result + 10 * c.from-nodes.result)) =
+    elim c.if-literals-le4096.branch [ then-literals-le4096 y ↦ rw (y.if-literals-le4096.true, y.value-is) refl | else-literals-le4096 n ↦ rw (n.value-is, n.if-literals-le4096.false) refl ] in
+    let all =
+    size_tests w c.args.literal_bytes c.from-rules.result c.from-nodes.result c.from-literals.result (c.from-rules.ensures ∙ c.rule_count.ensures) (c.from-nodes.ensures ∙ c.node_count.ensures)
+    (c.from-literals.ensures ∙ c.literal_count.ensures) one two three four in
+    rw c.if-words-rules.true at all
 
-pub returns-then-literal_bytes-literals : goal.returns-then-literal_bytes-literals
-returns-then-literal_bytes-literals c = size_wrong _ _ (λ (s : Sized c.args.words.now c.args.literal_bytes). c.if-literal_bytes-literals.true (omega (arith, s.literals_are, c.wide-literals.ensures)))
-
-pub returns : goal.returns
-returns c = size_found _ _ c.wide-rules.result c.wide-nodes.result c.wide-literals.result c.wide-rules.ensures c.wide-nodes.ensures c.wide-literals.ensures c.if-words-lt3.false (sym c.in_range.ensures ∙ c.if-not-in_range.false) (sym c.in_range-2.ensures ∙ c.if-not-in_range-2.false) (sym c.in_range-3.ensures ∙ c.if-not-in_range-3.false) c.if-words-rules.false c.if-literal_bytes-literals.false
+pub returns-else-words-rules : goal.returns-else-words-rules
+returns-else-words-rules c =
+    let w = c.args.words.now in
+    let one : c.if-words-ge3.value ≡ (leb 3 (length w) && within 1 64 c.from-rules.result) =
+    elim c.if-words-ge3.branch [ then-words-ge3 y ↦ rw (le-leb _ _ y.if-words-ge3.true, y.value-is, y.in_range.ensures) refl | else-words-ge3 n ↦ rw (n.value-is, lt-leb _ _ n.if-words-ge3.false) refl ] in
+    let two : c.if-in_range.value ≡ (c.if-words-ge3.value && within 1 1024 c.from-nodes.result) =
+    elim c.if-in_range.branch [ then-in_range y ↦ rw (y.if-in_range.true, y.value-is, y.in_range-then-in_range.ensures) refl | else-in_range n ↦ rw (n.value-is, n.if-in_range.false) refl ] in
+    let three : c.if-in_range-2.value ≡ (c.if-in_range.value && leb c.from-literals.result 4096) =
+    elim c.if-in_range-2.branch [ then-in_range-2 y ↦ rw (y.if-in_range-2.true, y.value-is) refl | else-in_range-2 n ↦ rw (n.value-is, n.if-in_range-2.false) refl ] in
+    let four : c.if-literals-le4096.value ≡ (c.if-in_range-2.value && eqb (length w) (3 + 15 * c.from-rules.result + 10 * c.from-nodes.result)) =
+    elim c.if-literals-le4096.branch [ then-literals-le4096 y ↦ rw (y.if-literals-le4096.true, y.value-is) refl | else-literals-le4096 n ↦ rw (n.value-is, n.if-literals-le4096.false) refl ] in
+    let all =
+    size_tests w c.args.literal_bytes c.from-rules.result c.from-nodes.result c.from-literals.result (c.from-rules.ensures ∙ c.rule_count.ensures) (c.from-nodes.ensures ∙ c.node_count.ensures)
+    (c.from-literals.ensures ∙ c.literal_count.ensures) one two three four in
+    rw c.if-words-rules.false (rw c.if-words-rules.false at all)

@@ -7,8 +7,8 @@ use lib.ListN.{length}
 use mathlib.Core.Path.{◌≡◌}
 use Rattle.typing.proofs.expressions.expression_type.Given as goal
 
-abbrev pub invariant-loop-w : goal.invariant-loop-w
-invariant-loop-w l = (length l.pile ≡ length l.initial.pile) × Judges l.words l.pile l.w × (comes_to (applied l.words (types_in l.slots)) (judging l.words l.slots l.pile l.w) ≡ expr_type (types_in l.slots) (expr_at l.words l.k))
+abbrev pub invariant-loop-walk : goal.invariant-loop-walk
+invariant-loop-walk l = (length l.pile ≡ length l.initial.pile) × Judges l.words l.pile l.walk × (comes_to (applied l.words (types_in l.slots)) (judging l.words l.slots l.pile l.walk) ≡ expr_type (types_in l.slots) (expr_at l.words l.k))
 
-abbrev pub decreases-loop-w : goal.decreases-loop-w
-decreases-loop-w l = weighs operator_weight (judging l.words l.slots l.pile l.w)
+abbrev pub decreases-loop-walk : goal.decreases-loop-walk
+decreases-loop-walk l = weighs operator_weight (judging l.words l.slots l.pile l.walk)

@@ -1,19 +1,21 @@
-use borrow.Author.Tests.{lt-ltb, le-ltb, eq-eqb, ne_eqb}
+use Rattle.std.proofs.lemmas.Grind.{common_steps}
+use Rattle.std.proofs.Common.{arith}
+use mathlib.Core.Path.{◌∙◌}
 use Rattle.typing.specs.Expressions.{kind_type}
 use Rattle.typing.proofs.expressions.operator_type.Goals as goal
 
-pub returns-then-kind-lt24 : goal.returns-then-kind-lt24
+pub returns-in-Equal : goal.returns-in-Equal
 unfolding kind_type
-returns-then-kind-lt24 c = rw (lt-ltb c.args.kind 24 c.if-kind-lt24.true) c.both.ensures
+returns-in-Equal c = c.equal_type.ensures ∙ rw c.in-Equal.is
 
-pub returns-then-kind-eq24 : goal.returns-then-kind-eq24
+pub returns-in-Greater : goal.returns-in-Greater
 unfolding kind_type
-returns-then-kind-eq24 c = rw (le-ltb c.args.kind 24 c.if-kind-lt24.false, eq-eqb c.args.kind 24 c.if-kind-eq24.true) c.equal_type.ensures
+returns-in-Greater c = c.both.ensures ∙ rw c.in-Greater.is
 
-pub returns-then-kind-eq25 : goal.returns-then-kind-eq25
+pub returns-in-And : goal.returns-in-And
 unfolding kind_type
-returns-then-kind-eq25 c = rw (le-ltb c.args.kind 24 c.if-kind-lt24.false, ne_eqb c.args.kind 24 c.if-kind-eq24.false, eq-eqb c.args.kind 25 c.if-kind-eq25.true) c.both-then-kind-eq25.ensures
+returns-in-And c = c.both-in-And.ensures ∙ grind (arith, common_steps)
 
-pub returns : goal.returns
+pub returns-in_default : goal.returns-in_default
 unfolding kind_type
-returns c = rw (le-ltb c.args.kind 24 c.if-kind-lt24.false, ne_eqb c.args.kind 24 c.if-kind-eq24.false, ne_eqb c.args.kind 25 c.if-kind-eq25.false) c.both-2.ensures
+returns-in_default c = c.both-in_default.ensures ∙ grind (arith, common_steps)

@@ -1,15 +1,14 @@
 use mathlib.Core.Path.{sym, ◌∙◌}
-use native.Mathlib.Omega.{arith}
-use Rattle.typing.specs.Slots.{broken, types_in}
-use Rattle.typing.proofs.Numbers.{told_none}
+use Rattle.typing.specs.Slots.{told, types_in}
 use Rattle.typing.proofs.Leaves.{callee, call_leaves}
 use Rattle.typing.proofs.parsing.called.Goals as goal
 
 pub returns-then-not-arguments_typed : goal.returns-then-not-arguments_typed
-returns-then-not-arguments_typed c = told_none broken (omega arith) ∙ call_leaves (types_in c.args.slots) c.requires.0 c.node_word-r.ensures (sym c.arguments_typed.ensures ∙ c.if-not-arguments_typed.true)
+unfolding told
+returns-then-not-arguments_typed c = call_leaves (types_in c.args.slots) c.requires c.node_word-r.ensures (sym c.arguments_typed.ensures ∙ c.if-not-arguments_typed.true)
 
 pub all_received-requires : goal.all_received-requires
-all_received-requires c = (callee (types_in c.args.slots) c.requires.0 c.node_word-r.ensures, c.requires.1)
+all_received-requires c = callee (types_in c.args.slots) c.requires c.node_word-r.ensures
 
 pub returns : goal.returns
-returns c = c.all_received.ensures ∙ call_leaves (types_in c.args.slots) c.requires.0 c.node_word-r.ensures (sym c.arguments_typed.ensures ∙ c.if-not-arguments_typed.false)
+returns c = c.all_received.ensures ∙ call_leaves (types_in c.args.slots) c.requires c.node_word-r.ensures (sym c.arguments_typed.ensures ∙ c.if-not-arguments_typed.false)

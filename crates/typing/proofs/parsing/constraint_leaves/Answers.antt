@@ -1,10 +1,15 @@
-use mathlib.Core.Path.{◌∙◌}
-use Rattle.typing.specs.Slots.{types_in}
+use mathlib.Core.Path.{sym, ◌∙◌}
+use Rattle.typing.specs.Slots.{told, types_in}
 use Rattle.typing.proofs.Leaves.{constraint_part, constraint_leaves}
 use Rattle.typing.proofs.parsing.constraint_leaves.Goals as goal
 
-pub expression_type-t-requires : goal.expression_type-t-requires
-expression_type-t-requires c = rw c.node_word-e.ensures (constraint_part (types_in c.args.slots) c.requires.0)
+pub has_type-requires : goal.has_type-requires
+has_type-requires c = rw c.node_word-e.ensures (constraint_part (types_in c.args.slots) c.requires)
 
-pub returns : goal.returns
-returns c = c.constrained.ensures ∙ rw (c.expression_type-t.ensures, c.node_word-e.ensures) (constraint_leaves (types_in c.args.slots) c.requires.0)
+pub returns-then-has_type : goal.returns-then-has_type
+unfolding told
+returns-then-has_type c = constraint_leaves (types_in c.args.slots) c.requires c.node_word-e.ensures (sym c.has_type.ensures ∙ c.if-has_type.true)
+
+pub returns-else-has_type : goal.returns-else-has_type
+unfolding told
+returns-else-has_type c = constraint_leaves (types_in c.args.slots) c.requires c.node_word-e.ensures (sym c.has_type.ensures ∙ c.if-has_type.false)

@@ -7,8 +7,8 @@ use lib.ListN.{length}
 use mathlib.Core.Path.{◌≡◌}
 use Rattle.typing.proofs.parsing.leaves.Given as goal
 
-abbrev pub invariant-loop-w : goal.invariant-loop-w
-invariant-loop-w l = (length l.pile ≡ length l.initial.pile) × Walks l.words l.pile l.w × (comes_to (resumed_at l.words) (walking l.words l.pile l.w) ≡ type_of (grammar_of l.words) (types_in l.slots) (parsing_at l.words l.k))
+abbrev pub invariant-loop-walk : goal.invariant-loop-walk
+invariant-loop-walk l = (length l.pile ≡ length l.initial.pile) × Walks l.words l.pile l.walk × (comes_to (resumed_at l.words) (walking l.words l.pile l.walk) ≡ type_of (grammar_of l.words) (types_in l.fn.slots) (parsing_at l.words l.k))
 
-abbrev pub decreases-loop-w : goal.decreases-loop-w
-decreases-loop-w l = weighs work_weight (walking l.words l.pile l.w)
+abbrev pub decreases-loop-walk : goal.decreases-loop-walk
+decreases-loop-walk l = weighs work_weight (walking l.words l.pile l.walk)

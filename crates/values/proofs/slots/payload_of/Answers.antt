@@ -1,23 +1,20 @@
-use mathlib.Core.Path.{◌≡◌}
-use mathlib.Core.Bool.{Bool, true, false}
+use Rattle.std.proofs.Common.{◌≡◌, Bool, true, false, cond, to_z-of_z}
 use mir.Val.{bool_byte}
-use mir.Facts.{to_z-of_z}
-use Rattle.grammar.specs.declared.Value.{Value}
-use Rattle.grammar.specs.declared.Value.TheVariants as Val
+use mathlib.Core.Path.{refl}
 use Rattle.values.specs.Slots.{payload_of}
 use Rattle.values.proofs.slots.payload_of.Goals as goal
 
-payload_bool : (b : Bool) {v : Value} → v ≡ Val.Bool b → bool_byte b ≡ payload_of v
-unfolding payload_of
-payload_bool true e = rw e
-payload_bool false e = rw e
+bool_word : (b : Bool) → bool_byte b ≡ cond b 1 0
+bool_word true = refl
+bool_word false = refl
 
 pub returns-in-Absent : goal.returns-in-Absent
 unfolding payload_of
 returns-in-Absent c = rw c.in-Absent.is
 
 pub returns-in-Bool : goal.returns-in-Bool
-returns-in-Bool c = payload_bool c.in-Bool.b c.in-Bool.is
+unfolding payload_of
+returns-in-Bool c = rw (c.in-Bool.is, c.from.ensures) (bool_word c.in-Bool.b)
 
 pub returns-in-Integer : goal.returns-in-Integer
 unfolding payload_of
@@ -25,4 +22,4 @@ returns-in-Integer c = rw c.in-Integer.is (rw (to_z-of_z (record { sfits = c.in-
 
 pub returns-in-Text : goal.returns-in-Text
 unfolding payload_of
-returns-in-Text c = rw c.in-Text.is
+returns-in-Text c = rw (c.in-Text.is, c.from-in-Text.ensures, c.from-in-Text-2.ensures)

@@ -1,29 +1,30 @@
-use Rattle.values.proofs.HandedOut.{in_literals, in_message, past_literals, past_message, no_text}
+use Rattle.std.proofs.Common.{◌≡◌, [], cond}
+use Rattle.values.proofs.HandedOut.{within_part, past_part, no_text, HandedOut}
 use Rattle.values.proofs.texts.text_bytes.Goals as goal
-use Rattle.values.proofs.texts.text_bytes.Goals.{then-literal+else-end-literals, else-literal+else-end-message}
+use Rattle.values.proofs.texts.text_bytes.Goals.{then-s, else-s}
 
-pub returns-then-end-literals : goal.returns-then-end-literals
-returns-then-end-literals c =
-    let h = in_literals c.args.message c.args.literals c.in-Text.s c.in-Text.is c.if-literal.true c.if-end-literals.true in
-    record { bytes = h.0; place = h.1 }
+named : (c : goal.Else-end-part) → c.if-s.part ≡ cond c.in-Text.s.literal c.args.literals c.args.message
+named c = elim c.if-s.branch [ then-s w ↦ rw (w.part-is, w.if-s.true) | else-s w ↦ rw (w.part-is, w.if-s.false) ]
 
-pub returns-then-end-message : goal.returns-then-end-message
-returns-then-end-message c =
-    let h = in_message c.args.message c.args.literals c.in-Text.s c.in-Text.is c.if-literal.false c.if-end-message.true in
-    record { bytes = h.0; place = h.1 }
+none : (c : goal.Else-end-part) → HandedOut c.args.message c.args.literals c.args.value [] c.args.message.ref_ptr
+none c =
+    past_part c.args.message c.args.literals c.in-Text.s c.in-Text.is c.if-s.part c.from-start.result c.from.result (named c) c.from-start.ensures c.from.ensures c.if-end-part.false
 
-pub returns-after-literal : goal.returns-after-literal
-returns-after-literal c =
-    let m = c.args.message in
-    let l = c.args.literals in
-    elim c.if-literal.branch [
-      | then-literal+else-end-literals w ↦
-          let h = past_literals m l c.in-Text.s c.in-Text.is w.if-literal.true w.if-end-literals.false in
-          record { bytes = h.0; place = h.1 }
-      | else-literal+else-end-message w ↦
-          let h = past_message m l c.in-Text.s c.in-Text.is w.if-literal.false w.if-end-message.false in
-          record { bytes = h.0; place = h.1 }
-    ]
+pub returns-then-end-part-clause-bytes : goal.returns-then-end-part-clause-bytes
+returns-then-end-part-clause-bytes c =
+    let n : c.if-s.part ≡ cond c.in-Text.s.literal c.args.literals c.args.message = elim c.if-s.branch [ then-s w ↦ rw (w.part-is, w.if-s.true) | else-s w ↦ rw (w.part-is, w.if-s.false) ] in
+    (within_part c.args.message c.args.literals c.in-Text.s c.in-Text.is c.if-s.part c.from-start.result c.from.result n c.from-start.ensures c.from.ensures c.if-end-part.true).0
+
+pub returns-then-end-part-clause-place : goal.returns-then-end-part-clause-place
+returns-then-end-part-clause-place c =
+    let n : c.if-s.part ≡ cond c.in-Text.s.literal c.args.literals c.args.message = elim c.if-s.branch [ then-s w ↦ rw (w.part-is, w.if-s.true) | else-s w ↦ rw (w.part-is, w.if-s.false) ] in
+    (within_part c.args.message c.args.literals c.in-Text.s c.in-Text.is c.if-s.part c.from-start.result c.from.result n c.from-start.ensures c.from.ensures c.if-end-part.true).1
+
+pub returns-else-end-part-clause-bytes : goal.returns-else-end-part-clause-bytes
+returns-else-end-part-clause-bytes c = (none c).0
+
+pub returns-else-end-part-clause-place : goal.returns-else-end-part-clause-place
+returns-else-end-part-clause-place c = (none c).1
 
 pub returns-in_default : goal.returns-in_default
 returns-in_default c = let h = no_text c.args.message c.args.literals c.args.value c.in_default.not-Text in record { bytes = h.0; place = h.1 }
