@@ -20,7 +20,7 @@ renamed 'a definition of another crate' 'read_rest is not in crates/text/specs/F
 renamed 'a definition in the file of its column' 'rounded is not in crates/grammar/specs/Run' 's/\| `rounds` \|/| `rounded` |/'
 renamed 'a file of definitions that is not there' 'crates/grammar/specs/Forms.antt is not there' 's/Form: `start_check`/Forms: `start_check`/'
 renamed 'a law that is not there' 'ran-to is not in crates/machine/proofs/Entry' 's/`ran_is`/`ran-to`/'
-renamed 'a fact of a proof that is not there' 'loop-j-held is not in crates/form/proofs/fields/first_bad' 's/`loop-j-preserved`/`loop-j-held`/'
+renamed 'a fact of a proof that is not there' 'records-held is not in crates/form/proofs/fields/first_bad' 's/`records-init`/`records-held`/'
 renamed 'a function that is not there' 'steps is not in crates/machine/src' 's/machine `step`/machine `steps`/'
 renamed 'a function of another crate' 'limits is not in crates/form/src' 's/runs `limits`/form `limits`/'
 renamed 'a function without a file that the head leaves out' 'crates/listing/proofs/read is not there' 's/; listing `read`, `fill_words`; console_text/; listing `fill_words`; console_text/'
