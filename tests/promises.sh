@@ -2,7 +2,8 @@
 # promises.sh: holds docs/PROMISES.md to the code. Every public function of a library crate stands there by its full name, `crate::module::function`, and no other does;
 # every wrong program or definition (`crate/name.edit`) stands there, and each that it names is there; every definition or law (`crate/specs/Module.name`) that it names
 # is there. And each public function has a contract of the kind that the page speaks of: no `requires`, and an `ensures` that is an equation or names a definition of the
-# page. What is public in a form that this script can't read, is told.
+# page. A conversion of a type of the repository (`impl From<..> for TYPE`) is public where its type is: it stands there as `TYPE::from`, and its `from_gives` is an
+# equation. What is public in a form that this script can't read, is told.
 # promises.sh --list prints the public functions.
 set -euo pipefail
 cd "$(dirname "$0")/.."
@@ -62,6 +63,14 @@ without_promise() { # DEFINITIONS
     done
 }
 
+# The conversions, a line each: the type that they make, and whether the line behind says by an equation what they give.
+conversions() {
+    find crates/*/src -name '*.rt' -exec cat {} + | awk '
+        made { print made, ($0 ~ /^ *ghost from_gives = \{.*≡.*\};$/ ? "said" : "unsaid"); made = "" }
+        /^ *impl From<.*> for [A-Z]/ { made = $0; sub(/^.* for /, "", made); sub(/[^A-Za-z0-9].*/, "", made) }
+        END { if (made) print made, "unsaid" }' | sort
+}
+
 # The wrong programs and definitions, as the page names them.
 edits() {
     local edit name
@@ -98,6 +107,8 @@ fi
 
 while read -r line; do [ -z "$line" ] || tell "can't be read: $line"; done <<<"$(unread)"
 hold "$functions" "$(named '[a-z_0-9]+(::[a-z_0-9]+)+')" 'is missing' 'is no public function'
+hold "$(conversions | sed 's/ .*/::from/' | sort -u)" "$(named '[A-Z][A-Za-z0-9]*::from')" 'is missing' 'is no conversion'
+while read -r type; do tell "$type::from has no \`from_gives\` that is an equation"; done < <(conversions | sed -n 's/ unsaid$//p')
 hold "$(edits)" "$(named '[a-z_0-9]+/[a-z_0-9]+\.edit')" 'is not named' 'is not there'
 definitions=$(named '[a-z_0-9]+/(specs|proofs)/[A-Za-z]+(\.[^`. ]+)?')
 unpromised=$(without_promise "$(sed -n 's/.*\.//p' <<<"$definitions")")

@@ -30,6 +30,15 @@ copy crates docs
 change "$page" 's/`runs::bench`/`runs::benches`/'
 fails 'a function that is not there' 'runs::benches is no public function' tests/promises.sh
 copy crates docs
+printf '\nimpl From<Stage> for Other {\n    ghost from_gives = { λ stage other. other ≡ other_of stage };\n}\n' >>crates/stages/src/lib.rt
+fails 'a conversion that the page leaves out' 'Other::from is missing' tests/promises.sh
+copy crates docs
+change crates/stages/src/lib.rt '/ghost from_gives/d'
+fails 'a conversion that says nothing' 'Stage::from has no `from_gives`' tests/promises.sh
+copy crates docs
+change "$page" 's/`Kind::from`/`Kinds::from`/'
+fails 'a conversion that is not there' 'Kinds::from is no conversion' tests/promises.sh
+copy crates docs
 rm crates/runs/must-fail/does_nothing.edit
 fails 'an edit that is not there' 'runs/does_nothing.edit is not there' tests/promises.sh
 copy crates docs
