@@ -16,7 +16,7 @@
 # functions only their contracts, which no edit touches, so that each is judged by its own facts. What is not refused together is tried again alone.
 #
 # Controls, without which the script fails: each crate has, in crates/CRATE/must-pass, an edit with a line `control: FUNCTION` that changes nothing but white space, of a function that calls what
-# other edits break. It must not be refused among the others; and where another is tried alone, it must not be refused alone, and leaves the crate proved. Nowhere may a
+# other edits break (in stages none calls another). It must not be refused among the others; and where another is tried alone, it must not be refused alone, and leaves the crate proved. Nowhere may a
 # function be refused that no edit changes. And the program as it stands, compiled without a proof, prints what is stored. Needs what tests/kept.sh leaves in crates/*/out.
 set -euo pipefail
 here=$(cd "$(dirname "$0")" && pwd)

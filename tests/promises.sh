@@ -2,8 +2,8 @@
 # promises.sh: holds docs/PROMISES.md to the code. Every public function of a library crate stands there by its full name, `crate::module::function`, and no other does;
 # every wrong program or definition (`crate/name.edit`) stands there, and each that it names is there; every definition or law (`crate/specs/Module.name`) that it names
 # is there. And each public function has a contract of the kind that the page speaks of: no `requires`, and an `ensures` that is an equation or names a definition of the
-# page. A conversion of a type of the repository (`impl From<..> for TYPE`) is public where its type is: it stands there as `TYPE::from`, and its `from_gives` is an
-# equation. What is public in a form that this script can't read, is told.
+# page. A conversion in a public module (`impl From<..> for TYPE`, where TYPE is the repository's) stands there as `TYPE::from`, and the line behind, its `from_gives`, is an
+# equation. What is public in a form that this script can't read, another trait's impl in a public module too, is told.
 # promises.sh --list prints the public functions.
 set -euo pipefail
 cd "$(dirname "$0")/.."
@@ -26,12 +26,23 @@ public_functions() {
     done | sort
 }
 
+# The files of a library whose items are public: its root, the modules that it opens with `pub mod`, and so on.
+public_files() { # FILE
+    local file=$1 module inside
+    echo "$file"
+    while read -r module; do
+        case $file in */lib.rt) inside=${file%lib.rt}$module.rt ;; *) inside=${file%.rt}/$module.rt ;; esac
+        public_files "$inside"
+    done < <(sed -nE 's/^ *pub mod ([a-z_0-9]+);.*/\1/p' "$file")
+}
+
 # What is made public in none of these forms, and a module that stands inside its file: nothing below would see its functions.
 unread() {
     local library
     for library in crates/*/src/lib.rt; do
         grep -rnE --include='*.rt' '\bpub\b|\bmod\b.*\{' "$(dirname "$library")" | grep -vE '^[^:]*:[0-9]+: *//' |
             grep -vE '^[^:]*:[0-9]+: *pub((\(crate\))? (fn [a-z]|const [A-Z]|(struct|enum) [A-Z])| extern "C" fn [a-z]| mod [a-z_0-9]+;$| (struct|enum) | [a-z_0-9]+: )' || true
+        public_files "$library" | xargs grep -nHE '^ *(unsafe )?impl\b.*\bfor\b' | grep -vE ':[0-9]+: *impl From<[A-Za-z0-9]+> for [A-Z][A-Za-z0-9]* \{$' || true
     done
 }
 
@@ -65,10 +76,13 @@ without_promise() { # DEFINITIONS
 
 # The conversions, a line each: the type that they make, and whether the line behind says by an equation what they give.
 conversions() {
-    find crates/*/src -name '*.rt' -exec cat {} + | awk '
-        made { print made, ($0 ~ /^ *ghost from_gives = \{.*≡.*\};$/ ? "said" : "unsaid"); made = "" }
-        /^ *impl From<.*> for [A-Z]/ { made = $0; sub(/^.* for /, "", made); sub(/[^A-Za-z0-9].*/, "", made) }
-        END { if (made) print made, "unsaid" }' | sort
+    local library
+    for library in crates/*/src/lib.rt; do
+        public_files "$library" | xargs cat | awk '
+            made { print made, ($0 ~ /^ *ghost from_gives = \{.*≡.*\};$/ ? "said" : "unsaid"); made = "" }
+            /^ *impl From<.*> for [A-Z]/ { made = $0; sub(/^.* for /, "", made); sub(/[^A-Za-z0-9].*/, "", made) }
+            END { if (made) print made, "unsaid" }'
+    done | sort
 }
 
 # The wrong programs and definitions, as the page names them.

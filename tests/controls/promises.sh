@@ -39,6 +39,11 @@ copy crates docs
 change "$page" 's/`Kind::from`/`Kinds::from`/'
 fails 'a conversion that is not there' 'Kinds::from is no conversion' tests/promises.sh
 copy crates docs
+forms=('impl TryFrom<u16> for Stage {' 'impl From<Stage> for u16 {' 'impl<T> From<T> for Stage {')
+printf '%s\n' "${forms[@]}" >>crates/stages/src/lib.rt
+tests/promises.sh >said || true
+for form in "${forms[@]}"; do passes "told, an impl in a public module, $form" grep -qF ":$form" said; done
+copy crates docs
 rm crates/runs/must-fail/does_nothing.edit
 fails 'an edit that is not there' 'runs/does_nothing.edit is not there' tests/promises.sh
 copy crates docs
